@@ -1,3 +1,4 @@
 pub mod Choose
 pub mod Text
 pub mod Bytes
+pub mod Digits
