@@ -10,14 +10,11 @@ use lib.Dec.{leb, eqb}
 use lib.ListN.{length, getD, take, drop}
 use lib.Seq.{take-all}
 use Rattle.lists.specs.Choose.{if_then_else_}
+use Rattle.lists.proofs.Tests.{and-false}
 use Rattle.lists.specs.Digits.{isDigit, allDigits, valueFrom}
 use Rattle.numeral.specs.declared.Number.{Number}
 use Rattle.numeral.specs.declared.Number.the-variants.{Value, NotANumber}
 use Rattle.numeral.specs.Numerals.{numberFrom, isWhole, fractionIsZero}
-
-pub and-false : (a : Bool) → (a && false) ≡ false
-and-false true = refl
-and-false false = refl
 
 pub value-grows : (k : ℕ) (bs : List ℕ) → k ≤ valueFrom k bs
 value-grows k [] = omega arith

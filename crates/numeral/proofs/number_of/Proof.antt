@@ -1,4 +1,4 @@
-use Rattle.numeral.proofs.Numerals.{and-false}
+use Rattle.lists.proofs.Tests.{and-false}
 use Rattle.numeral.specs.Numerals.{numberOf}
 use borrow.Author.Tests.{le-leb, lt-leb}
 use lib.ListN.{length}
