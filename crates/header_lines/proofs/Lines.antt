@@ -17,7 +17,7 @@ use Rattle.header_lines.specs.declared.Line.{Line}
 use Rattle.header_lines.specs.declared.LineId.{LineId}
 use Rattle.header_lines.specs.declared.LineId.the-variants as I
 use Rattle.header_lines.specs.declared.Place.the-variants.{At, Wrong}
-use Rattle.header_lines.specs.Lines.{startsWith, lines, noLine, indexOf, lineOf, positionOf, placeOf}
+use Rattle.header_lines.specs.Lines.{startsWith, lines, noLine, indexOf, lineOf, positionOf, placeIn, placeOf}
 
 pub starts-short : (n s : List ℕ) → length s < length n → startsWith n s ≡ false
 unfolding startsWith
@@ -60,5 +60,5 @@ placed false b start from n t p = let z : _≡_ {A = ℕ} 0 1 = cc in absurd (om
 
 -- a line's data ends within the header
 pub place-within : (header : List ℕ) (id : LineId) (start : ℕ) → At start ≡ placeOf header id → start + 72 ≤ length header
-unfolding placeOf
+unfolding placeIn
 place-within header id start p = placed _ _ start (positionOf id * 80) (length header) refl p

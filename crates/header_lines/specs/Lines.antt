@@ -55,13 +55,16 @@ startsWith [] s = true
 startsWith (n ∷ ns) [] = false
 startsWith (n ∷ ns) (b ∷ bs) = eqb n b && startsWith ns bs
 
--- where the line's data starts: the line ends within the header and has its name
-unfoldable pub placeOf : List ℕ → LineId → Place
+-- where the data of a line starts: the line ends within the header and has its name
+unfoldable pub placeIn : List ℕ → Line → Place
 unfolding startsWith
-placeOf header id =
-    if leb (positionOf id * 80 + 80) (length header) && startsWith (lineOf id .name) (drop (positionOf id * 80) header)
-    then At (positionOf id * 80 + 8)
+placeIn header l =
+    if leb (l .position * 80 + 80) (length header) && startsWith (l .name) (drop (l .position * 80) header)
+    then At (l .position * 80 + 8)
     else Wrong
+
+abbrev pub placeOf : List ℕ → LineId → Place
+placeOf header id = placeIn header (lineOf id)
 
 abbrev pub dataAt : {A : Type 0} → List ℕ → Place → A → (List ℕ → A) → A
 dataAt header (At start) wrong go = go (take 72 (drop start header))

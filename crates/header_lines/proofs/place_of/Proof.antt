@@ -1,4 +1,9 @@
-use Rattle.header_lines.specs.Lines.{placeOf}
+use Rattle.header_lines.specs.declared.Place.the-variants.{At, Wrong}
+use mathlib.Core.Path.{_≡_, ap, _∙_}
+use Rattle.header_lines.specs.Lines.{placeIn}
+use lib.ListN.{length}
+use Prim.Native.Nat.{_+_, _*_}
+use mathlib.Core.Path.{ap, _∙_}
 use borrow.Author.Tests.{le-leb, lt-leb}
 use borrow.Author.Needs.{needs}
 use Rattle.header_lines.proofs.place_of.Statement.{statement}
@@ -17,8 +22,8 @@ add-if1 : tie.Need-add-if1
 add-if1 c = search needs
 
 returns : tie.Need-returns
-unfolding placeOf
-returns c = rw (← c .before .before .before .line-of .ensures, lt-leb _ _ (c .if1 .taken))
+unfolding placeIn
+returns c = let l = c .before .before .before .line-of .result in let h = c .before .before .before .before .before .args .header .now in let p : Wrong ≡ placeIn h l = rw (lt-leb (l .position * 80 + 80) (length h) (c .if1 .taken)) in p ∙ ap (placeIn h) (c .before .before .before .line-of .ensures)
 
 starts-with-requires : tie.Need-starts-with-requires
 starts-with-requires c κs = search needs
@@ -27,12 +32,12 @@ add-t11 : tie.Need-add-t11
 add-t11 c = search needs
 
 returns-2 : tie.Need-returns-2
-unfolding placeOf
-returns-2 c = rw (← c .before .before .before .before .before .line-of .ensures, le-leb _ _ (c .before .before .if1 .left), ← c .before .starts-with .ensures, c .if2 .taken)
+unfolding placeIn
+returns-2 c = let l = c .before .before .before .before .before .line-of .result in let h = c .before .before .before .before .before .before .before .args .header .now in let p : At (l .position * 80 + 8) ≡ placeIn h l = rw (le-leb (l .position * 80 + 80) (length h) (c .before .before .if1 .left), ← c .before .starts-with .ensures, c .if2 .taken) in p ∙ ap (placeIn h) (c .before .before .before .before .before .line-of .ensures)
 
 returns-3 : tie.Need-returns-3
-unfolding placeOf
-returns-3 c = rw (← c .before .before .before .before .before .line-of .ensures, le-leb _ _ (c .before .before .if1 .left), ← c .before .starts-with .ensures, c .if2 .left)
+unfolding placeIn
+returns-3 c = let l = c .before .before .before .before .before .line-of .result in let h = c .before .before .before .before .before .before .before .args .header .now in let p : Wrong ≡ placeIn h l = rw (le-leb (l .position * 80 + 80) (length h) (c .before .before .if1 .left), ← c .before .starts-with .ensures, c .if2 .left) in p ∙ ap (placeIn h) (c .before .before .before .before .before .line-of .ensures)
 
 pub place-of-spec : {M : Type 1} → statement M
 place-of-spec =
