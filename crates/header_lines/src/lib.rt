@@ -24,15 +24,42 @@ pub enum LineId {
 }
 
 const LINES: [Line; 9] = [
-    Line { position: 0, name: *b"FORMAT :" },
-    Line { position: 1, name: *b"VERSION:" },
-    Line { position: 2, name: *b"HDRBLKS:" },
-    Line { position: 20, name: *b"NOVERFL:" },
-    Line { position: 39, name: *b"NPIXELB:" },
-    Line { position: 40, name: *b"NROWS  :" },
-    Line { position: 41, name: *b"NCOLS  :" },
-    Line { position: 58, name: *b"LINEAR :" },
-    Line { position: 79, name: *b"NEXP   :" },
+    Line {
+        position: 0,
+        name: *b"FORMAT :",
+    },
+    Line {
+        position: 1,
+        name: *b"VERSION:",
+    },
+    Line {
+        position: 2,
+        name: *b"HDRBLKS:",
+    },
+    Line {
+        position: 20,
+        name: *b"NOVERFL:",
+    },
+    Line {
+        position: 39,
+        name: *b"NPIXELB:",
+    },
+    Line {
+        position: 40,
+        name: *b"NROWS  :",
+    },
+    Line {
+        position: 41,
+        name: *b"NCOLS  :",
+    },
+    Line {
+        position: 58,
+        name: *b"LINEAR :",
+    },
+    Line {
+        position: 79,
+        name: *b"NEXP   :",
+    },
 ];
 
 fn index_of(id: LineId) -> usize

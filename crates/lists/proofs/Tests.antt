@@ -4,6 +4,7 @@ use mathlib.Core.Path.{_≡_, refl}
 use mathlib.Core.Bool.{Bool, true, false, _&&_}
 use mathlib.Core.List.{List, [], _∷_}
 use Prim.Native.Nat.{ℕ, zero, suc}
+use native.Mathlib.Omega.{arith}
 use lib.Dec.{T}
 use lib.ListN.{getD}
 
@@ -29,3 +30,11 @@ module _ {A : Type 0} (f : A → Bool) where
   every-at [] d t e k = e
   every-at (x ∷ xs) d t e zero = and-left (f x) (every xs) t
   every-at (x ∷ xs) d t e (suc k) = every-at xs d (and-right (f x) (every xs) t) e k
+
+pub and-true-left : (a b : Bool) → (a && b) ≡ true → a ≡ true
+and-true-left true b t = refl
+and-true-left false b t = t
+
+pub and-true-right : (a b : Bool) → (a && b) ≡ true → b ≡ true
+and-true-right true b t = t
+and-true-right false b t = let z : _≡_ {A = ℕ} 0 1 = cc in absurd (omega arith)

@@ -1,0 +1,18 @@
+use borrow.Author.Needs.{needs}
+use Rattle.header.proofs.step_refusal.Statement.{statement}
+use Rattle.header.proofs.step_refusal.Tie as tie
+
+enum-known-s : tie.Need-enum-known-s
+enum-known-s c = search needs
+
+enum-told : tie.Need-enum-told
+enum-told c = search needs
+
+returns : tie.Need-returns
+returns c = rw (c .before .s .given .1)
+
+returns-2 : tie.Need-returns-2
+returns-2 c = search needs
+
+pub step-refusal-spec : {M : Type 1} → statement M
+step-refusal-spec = tie.close (tie.spec enum-known-s enum-told returns returns-2)
