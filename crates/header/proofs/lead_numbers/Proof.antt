@@ -92,7 +92,7 @@ is-blocks-requires : tie.Need-is-blocks-requires
 is-blocks-requires c κs = search needs
 
 mul-t24 : tie.Need-mul-t24
-mul-t24 c = let n = c .before .before .before .third .given .0 .0 in let h : n ≤ 64 = blocks-small _ _ (sym (c .before .is-blocks .ensures) ∙ c .if2 .taken) in omega arith
+mul-t24 c = let n = c .before .before .before .third .given .0 .0 in let h : n ≤ 64 = blocks-small (c .before .before .before .before .before .before .before .before .before .before .before .before .before .before .before .listed .given .0 .0) n (sym (c .before .is-blocks .ensures) ∙ c .if2 .taken) in omega arith
 
 returns-6 : tie.Need-returns-6
 unfolding leadNumbers
