@@ -1,2 +1,4 @@
 pub mod LineLaws
 pub mod Packing
+pub mod StandingLaws
+pub mod Scanning

@@ -5,7 +5,7 @@ ghost use Prim.Native.Nat.{ℕ, _+_, _*_, _/_, _%_, _^_, _<_, _≤_};
 ghost use lib.ListN.{length, take, drop};
 ghost use Rattle.lists.specs.Bytes.{big, bigBytes};
 ghost use Rattle.ledger.specs.Lines.{kindNumber, kindFrom, isNoDate, noCounts, rightFor, fieldsOf, lineFrom, lineOf, lineNumber, bytesAt};
-ghost use Rattle.ledger.specs.Standing.{orElse};
+ghost use Rattle.ledger.specs.Standing.{isWithdrawal, isKeep, orElse};
 ghost use Rattle.ledger.specs.Ledger.{surveyOf, withLine, appendAnswer, appendBytes, keepAnswer, keepBytes, purgeBy, purgeAnswer, scanBack};
 use calendar::Date;
 use refusal::Refusal;
@@ -59,7 +59,7 @@ pub enum PurgeAnswer {
 }
 
 // What a survey knows on its way from the last line back to the first.
-pub struct Scan {
+struct Scan {
     pub skip: usize,
     pub count: usize,
     pub last: Found,
@@ -251,4 +251,167 @@ fn put_line(ledger: &mut [u8], index: usize, line: Line)
     let next = at + 8;
     put_word(ledger, at, high_word(line));
     put_word(ledger, next, low_word(line));
+}
+
+fn or_else(found: Found, index: usize, line: Line) -> Found
+    ensures { λ r. ⌜ r ≡ orElse found (Found.At index line) ⌝ }
+{
+    match found {
+        Found::At { index: _, line: _ } => found,
+        Found::Nothing => Found::At { index, line },
+    }
+}
+
+fn is_keep(kind: Kind) -> bool
+    ensures { λ r. ⌜ r ≡ isKeep kind ⌝ }
+{
+    match kind {
+        Kind::Correction => false,
+        Kind::Keep => true,
+        Kind::Withdrawal => false,
+    }
+}
+
+fn is_withdrawal(kind: Kind) -> bool
+    ensures { λ r. ⌜ r ≡ isWithdrawal kind ⌝ }
+{
+    match kind {
+        Kind::Correction => false,
+        Kind::Keep => false,
+        Kind::Withdrawal => true,
+    }
+}
+
+// One line further back.
+fn scan_back(s: Scan, index: usize, line: Line) -> Scan
+    requires { ⌜ (s .skip + 1 < 2 ^ 64) × (s .count + 1 < 2 ^ 64) ⌝ }
+    ensures { λ r. ⌜ r ≡ scanBack s index line ⌝ }
+{
+    let last = s.last;
+    let keep = s.keep;
+    let kind = line.kind;
+    if is_withdrawal(kind) {
+        return Scan {
+            skip: s.skip + 1,
+            count: s.count,
+            last,
+            keep,
+        };
+    }
+    if 0 < s.skip {
+        return Scan {
+            skip: s.skip - 1,
+            count: s.count,
+            last,
+            keep,
+        };
+    }
+    let top = or_else(last, index, line);
+    if is_keep(kind) {
+        return Scan {
+            skip: 0,
+            count: s.count + 1,
+            last: top,
+            keep: or_else(keep, index, line),
+        };
+    }
+    Scan {
+        skip: 0,
+        count: s.count + 1,
+        last: top,
+        keep,
+    }
+}
+
+// What stands of the first `lines` lines, in one pass from the last to the first.
+pub fn survey(ledger: &[u8], lines: u64) -> SurveyAnswer
+    ensures { λ r. ⌜ r ≡ surveyOf (now (ledger .entry)) lines ⌝ }
+{
+    if ((ledger.len() / 16) as u64) < lines {
+        return SurveyAnswer::Malformed;
+    }
+    let mut s = Scan {
+        skip: 0,
+        count: 0,
+        last: Found::Nothing,
+        keep: Found::Nothing,
+    };
+    let mut i = lines as usize;
+    while 0 < i {
+        i -= 1;
+        let LineAnswer::WellFormed(line) = line_at(ledger, i) else {
+            return SurveyAnswer::Malformed;
+        };
+        s = scan_back(s, i, line);
+    }
+    if 0 < s.skip {
+        return SurveyAnswer::Malformed;
+    }
+    let last = s.last;
+    let keep = s.keep;
+    SurveyAnswer::Surveyed(Summary {
+        last,
+        keep,
+        count: s.count,
+    })
+}
+
+// Writes one line more.
+pub fn append(ledger: &mut [u8], lines: u64, line: Line) -> LedgerAnswer
+    ensures { λ r. ⌜ r ≡ appendAnswer (now (ledger .entry)) lines ⌝ }
+    ensures { λ _. ⌜ now (ledger .exit) ≡ appendBytes (now (ledger .entry)) lines line ⌝ }
+{
+    if (ledger.len() / 16) as u64 <= lines {
+        return LedgerAnswer::Refused(Refusal::LedgerFull);
+    }
+    put_line(ledger, lines as usize, line);
+    LedgerAnswer::Accepted { lines: lines + 1 }
+}
+
+// The keep entry.
+pub fn keep(ledger: &mut [u8], lines: u64, date: Date) -> LedgerAnswer
+    ensures { λ r. ⌜ r ≡ keepAnswer (now (ledger .entry)) lines date ⌝ }
+    ensures { λ _. ⌜ now (ledger .exit) ≡ keepBytes (now (ledger .entry)) lines date ⌝ }
+{
+    let SurveyAnswer::Surveyed(_) = survey(ledger, lines) else {
+        return LedgerAnswer::Refused(Refusal::LedgerMalformed);
+    };
+    if !calendar::is_date(date) {
+        return LedgerAnswer::Refused(Refusal::NotADate);
+    }
+    let line = Line {
+        kind: Kind::Keep,
+        date,
+        pixel: 0,
+        old: 0,
+        new: 0,
+    };
+    append(ledger, lines, line)
+}
+
+fn purge_by(day: Date, last: Found) -> PurgeAnswer
+    ensures { λ r. ⌜ r ≡ purgeBy day last ⌝ }
+{
+    let Found::At { index: _, line } = last else {
+        return PurgeAnswer::Refused(Refusal::NoKeepLine);
+    };
+    let date = line.date;
+    if calendar::is_before(date, day) {
+        return PurgeAnswer::Allowed;
+    }
+    PurgeAnswer::Refused(Refusal::NotYet)
+}
+
+// The purge question.
+pub fn may_purge(ledger: &[u8], lines: u64, day: Date) -> PurgeAnswer
+    ensures { λ r. ⌜ r ≡ purgeAnswer (now (ledger .entry)) lines day ⌝ }
+{
+    let SurveyAnswer::Surveyed(summary) = survey(ledger, lines) else {
+        return PurgeAnswer::Refused(Refusal::LedgerMalformed);
+    };
+    if !calendar::is_date(day) {
+        return PurgeAnswer::Refused(Refusal::NotADate);
+    }
+    let last = summary.keep;
+    purge_by(day, last)
 }

@@ -4,47 +4,34 @@ use native.Mathlib.Omega.{arith}
 use borrow.Author.Needs.{needs}
 use Rattle.ledger.proofs.fields_of.Statement.{statement}
 use Rattle.ledger.proofs.fields_of.Tie as tie
-use Rattle.ledger.proofs.fields_of.Reads as reads
-use Rattle.ledger.proofs.fields_of.Lts as lts
-use Rattle.ledger.proofs.kind_from.Reads as kind-from-reads
 
--- src/lib.rt:123:15
 cast-t6 : tie.Need-cast-t6
 cast-t6 c = search needs
 
--- src/lib.rt:124:16
 cast-t9 : tie.Need-cast-t9
 cast-t9 c = search needs
 
--- src/lib.rt:125:14
 cast-t12 : tie.Need-cast-t12
 cast-t12 c = search needs
 
--- src/lib.rt:128:15
 kind-from-requires : tie.Need-kind-from-requires
 kind-from-requires c κs = search needs
 
--- src/lib.rt:130:16
 cast-t12-2 : tie.Need-cast-t12-2
 cast-t12-2 c = search needs
 
--- src/lib.rt:131:15
 mul-t8 : tie.Need-mul-t8
 mul-t8 c = search needs
 
--- src/lib.rt:131:15
 add-t14 : tie.Need-add-t14
 add-t14 c = record { fits = lt-of-lt-of-le (old-fits (c .before .args .hi) (c .before .args .lo) (c .before .fits .lo .fits)) (omega arith) }
 
--- src/lib.rt:131:14
 cast-t9-2 : tie.Need-cast-t9-2
 cast-t9-2 c = record { fits = old-fits (c .before .args .hi) (c .before .args .lo) (c .before .fits .lo .fits) }
 
--- src/lib.rt:132:14
 cast-t6-2 : tie.Need-cast-t6-2
 cast-t6-2 c = search needs
 
--- src/lib.rt:119:1
 returns : tie.Need-returns
 returns c = rw (c .kind-from .ensures) (fields-words _ _ (c .before .fits .lo .fits))
 

@@ -1,18 +1,13 @@
 use borrow.Author.Tests.{eq-eqb, ne-eqb}
 use Rattle.ledger.proofs.is_no_date.Statement.{statement}
 use Rattle.ledger.proofs.is_no_date.Tie as tie
-use Rattle.ledger.proofs.is_no_date.Reads as reads
-use Rattle.ledger.proofs.is_no_date.Lts as lts
 
--- src/lib.rt:140:9
 returns : tie.Need-returns
 returns c = rw (ne-eqb _ 0 (c .if1 .taken))
 
--- src/lib.rt:143:9
 returns-2 : tie.Need-returns-2
 returns-2 c = rw (eq-eqb _ 0 (c .before .before .if1 .left), ne-eqb _ 0 (c .if2 .taken))
 
--- src/lib.rt:136:1
 returns-3 : tie.Need-returns-3
 returns-3 c = rw (eq-eqb _ 0 (c .before .before .before .if1 .left), eq-eqb _ 0 (c .before .if2 .left))
 

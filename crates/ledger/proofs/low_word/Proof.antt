@@ -3,30 +3,22 @@ use Rattle.ledger.proofs.LineLaws.{low-is}
 use borrow.Author.Needs.{needs}
 use Rattle.ledger.proofs.low_word.Statement.{statement}
 use Rattle.ledger.proofs.low_word.Tie as tie
-use Rattle.ledger.proofs.low_word.Reads as reads
-use Rattle.ledger.proofs.low_word.Lts as lts
 
--- src/lib.rt:237:5
 cast-result : tie.Need-cast-result
 cast-result c = search needs
 
--- src/lib.rt:237:5
 mul-result : tie.Need-mul-result
 mul-result c = search needs
 
--- src/lib.rt:237:37
 cast-result-2 : tie.Need-cast-result-2
 cast-result-2 c = search needs
 
--- src/lib.rt:237:36
 mul-result-2 : tie.Need-mul-result-2
 mul-result-2 c = search needs
 
--- src/lib.rt:237:5
 add-result : tie.Need-add-result
 add-result c = search needs
 
--- src/lib.rt:234:1
 returns : tie.Need-returns
 returns c = low-is (c .before .before .args .l) (omega arith) (omega arith)
 

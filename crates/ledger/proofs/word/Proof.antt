@@ -1,17 +1,13 @@
-use mathlib.Core.Path.{_≡_, refl, sym, ap, _∙_}
-use mathlib.Core.List.{List, [], _∷_, _++_}
+use mathlib.Core.Path.{_≡_, sym, ap, _∙_}
 use Prim.Native.Nat.{ℕ, _+_, _*_, _-_, _^_, _≤_, _<_}
 use native.Mathlib.Omega.{arith}
 use native.Mathlib.Nat.{add-zero}
-use lib.ListN.{length, getD, take, drop, set}
-use borrow.Author.Needs.{needs}
+use lib.ListN.{take, drop}
 use Rattle.lists.specs.Bytes.{bigFrom, big}
 use lib.Pow.{pow-mono}
 use Rattle.lists.proofs.BigEndian.{big-grows, big-more}
 use Rattle.ledger.proofs.word.Statement.{statement}
 use Rattle.ledger.proofs.word.Tie as tie
-use Rattle.ledger.proofs.word.Reads as reads
-use Rattle.ledger.proofs.word.Lts as lts
 
 abbrev Inv-loop : tie.InvT-loop
 Inv-loop t at v₀ i₀ v i = (i ≤ 8) × (v < 2 ^ (8 * i)) × (bigFrom v (take (8 - i) (drop (at + i) t)) ≡ big (take 8 (drop at t)))
@@ -22,39 +18,30 @@ low i h = pow-mono {i = 8 * i} {j = 56} (omega arith)
 abbrev μ-loop : tie.MeasureT-loop
 μ-loop t at v₀ i₀ v i = 8 - i
 
--- src/lib.rt:19:5
 loop-holds : tie.Need-loop-holds Inv-loop μ-loop
 loop-holds c = (omega arith, omega arith, ap (λ (n : ℕ). big (take 8 (drop n (c .args .t .now)))) (add-zero (c .args .at)))
 
--- src/lib.rt:20:13
 mul-v : tie.Need-mul-v Inv-loop μ-loop
 mul-v c = omega (arith, low (c .before .loop .i) (c .loop-test .taken))
 
--- src/lib.rt:20:26
 add-v : tie.Need-add-v Inv-loop μ-loop
 add-v c = omega arith
 
--- src/lib.rt:20:24
 shared-slice-read-v : tie.Need-shared-slice-read-v Inv-loop μ-loop
 shared-slice-read-v c = omega arith
 
--- src/lib.rt:20:24
 cast-v : tie.Need-cast-v Inv-loop μ-loop
 cast-v c = omega (arith, c .shared-slice-known .given (c .before .before .before .args .at + c .before .before .loop .i))
 
--- src/lib.rt:20:13
 add-v-2 : tie.Need-add-v-2 Inv-loop μ-loop
 add-v-2 c = omega (arith, low (c .before .before .loop .i) (c .before .loop-test .taken), c .shared-slice-known .given (c .before .before .before .args .at + c .before .before .loop .i))
 
--- src/lib.rt:21:9
 add-i : tie.Need-add-i Inv-loop μ-loop
 add-i c = omega arith
 
--- src/lib.rt:19:5
 loop-less : tie.Need-loop-less Inv-loop μ-loop
 loop-less c = omega arith
 
--- src/lib.rt:19:5
 loop-again : tie.Need-loop-again Inv-loop μ-loop
 loop-again c =
     let l = c .before .before .loop in
@@ -62,7 +49,6 @@ loop-again c =
     let b = c .shared-slice-known .given (a .at + l .i) in
     (omega arith, big-grows _ _ (l .i) (l .inv .1) (omega (arith, b)), sym (big-more (a .t .now) (l .v) (a .at) (l .i) 8 (c .before .loop-test .taken) (omega arith)) ∙ l .inv .2)
 
--- src/lib.rt:13:1
 returns : tie.Need-returns Inv-loop μ-loop
 unfolding bigFrom
 returns c =
