@@ -69,7 +69,7 @@ module _ (t : List ℕ) (n i : ℕ) (h : i < n) where
   unfolding someMalformed
   malformed-from = rw (left, next-place)
 
-some-split : (a b : ℕ) (t : List ℕ) → someMalformed (a + b) t ≡ someMalformed a t || someMalformed b (drop (a * 16) t)
+pub some-split : (a b : ℕ) (t : List ℕ) → someMalformed (a + b) t ≡ someMalformed a t || someMalformed b (drop (a * 16) t)
 unfolding someMalformed
 some-split zero b t = rw zero-add
 some-split (suc a) b t =
