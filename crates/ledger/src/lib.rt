@@ -272,7 +272,7 @@ fn is_keep(kind: Kind) -> bool
     }
 }
 
-fn is_withdrawal(kind: Kind) -> bool
+pub fn is_withdrawal(kind: Kind) -> bool
     ensures { λ r. ⌜ r ≡ isWithdrawal kind ⌝ }
 {
     match kind {
