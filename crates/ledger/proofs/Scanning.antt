@@ -1,0 +1,189 @@
+-- The survey of a ledger from its last line to its first.
+-- Assumes nothing.
+use mathlib.Core.Path.{_≡_, refl, sym, ap, _∙_}
+use mathlib.Core.Bool.{Bool, true, false, not, _&&_, _||_, or-true, or-assoc}
+use mathlib.Core.List.{List, [], _∷_, _++_}
+use Prim.Native.Nat.{ℕ, zero, suc, pred, _+_, _-_, _*_, _/_, _≤_, _<_}
+use native.Mathlib.Nat.{suc-add, zero-add, zero-mul, add-zero}
+use native.Mathlib.Numerals.{add-one}
+use native.Mathlib.Omega.{arith}
+use lib.ListN.{length, take, drop}
+use lib.Seq.{drop-drop}
+use lib.Dec.{eqb, ltb}
+use borrow.Author.Tests.{lt-ltb, le-ltb, eq-eqb}
+use Rattle.lists.specs.Choose.{if_then_else_}
+use Rattle.lists.specs.Bytes.{big}
+use Rattle.ledger.specs.declared.Line.{Line}
+use Rattle.ledger.specs.declared.LineAnswer.{LineAnswer}
+use Rattle.ledger.specs.declared.LineAnswer.the-variants.{WellFormed, Malformed}
+use Rattle.ledger.specs.declared.Found.{Found}
+use Rattle.ledger.specs.declared.Found.the-variants.{At, Nothing}
+use Rattle.ledger.specs.declared.Scan.{Scan}
+use Rattle.ledger.specs.declared.Summary.{Summary}
+use Rattle.ledger.specs.declared.SurveyAnswer.the-variants as Y
+use Rattle.ledger.specs.Lines.{fieldsOf, lineFrom, lineOf, bytesAt, linesOf, isMalformed, someMalformed}
+use Rattle.ledger.specs.Standing.{withdraws, keeps, anyLine, cancelled, standing, overdrawn, orElse, lastStanding}
+use Rattle.ledger.specs.Ledger.{capacity, ledgerMalformed, summaryOf, surveyOf, scanBack}
+use Rattle.ledger.proofs.Packing.{line-read}
+use Rattle.ledger.proofs.StandingLaws.{depth, cancelled-is, overdrawn-all, depth-small, standing-small}
+
+-- what a survey knows of the lines from this index on
+abbrev pub scanOf : ℕ → List Line → Scan
+scanOf i ls = record { skip = depth ls; count = length (standing ls); last = lastStanding anyLine i ls; keep = lastStanding keeps i ls }
+
+pub scan-none : (i : ℕ) → scanOf i [] ≡ record { skip = 0; count = 0; last = Nothing; keep = Nothing }
+unfolding depth standing lastStanding
+scan-none i = refl
+
+pub scan-more : (i : ℕ) (l : Line) (ls : List Line) → scanBack (scanOf (suc i) ls) i l ≡ scanOf i (l ∷ ls)
+unfolding scanBack depth standing lastStanding
+scan-more i l ls = go (withdraws l) refl (depth ls) refl (keeps l) refl
+  where
+    go : (t : Bool) → withdraws l ≡ t → (d : ℕ) → depth ls ≡ d → (k : Bool) → keeps l ≡ k → scanBack (scanOf (suc i) ls) i l ≡ scanOf i (l ∷ ls)
+    go true e d f k g = rw (e, add-one)
+    go false e zero f k g = rw (e, cancelled-is ls, f, g, add-one)
+    go false e (suc d) f k g =
+        let p : suc d - 1 ≡ d = omega arith in
+        rw (e, cancelled-is ls, f, lt-ltb 0 (suc d) (omega arith), p)
+
+-- lines and bytes
+
+pub length-lines : (n : ℕ) (t : List ℕ) → length (linesOf n t) ≡ n
+unfolding linesOf
+length-lines zero t = refl
+length-lines (suc n) t = ap suc (length-lines n (drop 16 t))
+
+-- the lines from one on are that line and those from the next on
+next-place : (t : List ℕ) (i : ℕ) → drop 16 (drop (i * 16) t) ≡ drop (suc i * 16) t
+next-place t i = let e : i * 16 + 16 ≡ suc i * 16 = omega arith in drop-drop 16 (i * 16) t ∙ ap (λ (n : ℕ). drop n t) e
+
+module _ (t : List ℕ) (n i : ℕ) (h : i < n) where
+  left : n - i ≡ suc (n - suc i)
+  left = omega arith
+
+  pub lines-from : linesOf (n - i) (drop (i * 16) t) ≡ fieldsOf (big (bytesAt t i)) ∷ linesOf (n - suc i) (drop (suc i * 16) t)
+  unfolding linesOf
+  lines-from = rw (left, next-place)
+
+  pub malformed-from : someMalformed (n - i) (drop (i * 16) t) ≡ isMalformed (lineOf (bytesAt t i)) || someMalformed (n - suc i) (drop (suc i * 16) t)
+  unfolding someMalformed
+  malformed-from = rw (left, next-place)
+
+pub some-split : (a b : ℕ) (t : List ℕ) → someMalformed (a + b) t ≡ someMalformed a t || someMalformed b (drop (a * 16) t)
+unfolding someMalformed
+some-split zero b t = rw zero-add
+some-split (suc a) b t =
+    let e : suc a * 16 ≡ 16 + a * 16 = omega arith in
+    rw (suc-add, some-split a b (drop 16 t), e, ← drop-drop (a * 16) 16 t) (sym (or-assoc (isMalformed (lineOf (take 16 t))) (someMalformed a (drop 16 t)) _))
+
+-- a line malformed from one on is one of the lines
+pub malformed-later : (t : List ℕ) (n i : ℕ) → i ≤ n → someMalformed (n - i) (drop (i * 16) t) ≡ true → someMalformed n t ≡ true
+malformed-later t n i h m =
+    let e : n ≡ i + (n - i) = omega arith in
+    ap (λ (k : ℕ). someMalformed k t) e ∙ some-split i (n - i) t ∙ rw m (or-true (someMalformed i t))
+
+pub line-fields : (t : List ℕ) (l : Line) → lineOf t ≡ WellFormed l → l ≡ fieldsOf (big t)
+unfolding lineOf
+line-fields t l e = go (eqb (length t) 16) refl
+  where
+    go : (b : Bool) → eqb (length t) 16 ≡ b → l ≡ fieldsOf (big t)
+    go true q = line-read (big t) l (rw q at e) .is
+    go false q = let z : _≡_ {A = ℕ} 0 1 = let w : Malformed ≡ WellFormed l = rw q at e in cc in absurd (omega arith)
+
+-- a survey on its way: lines from i on are passed
+
+pub record Surveying (t : List ℕ) (n i : ℕ) (s : Scan) : Type 0 where
+  pub upto : i ≤ n
+  pub scan : s ≡ scanOf i (linesOf (n - i) (drop (i * 16) t))
+  pub well : someMalformed (n - i) (drop (i * 16) t) ≡ false
+
+pub surveying-start : (t : List ℕ) (n : ℕ) → Surveying t n n (record { skip = 0; count = 0; last = Nothing; keep = Nothing })
+unfolding linesOf someMalformed
+surveying-start t n =
+    let e : n - n ≡ 0 = omega arith in
+    record { upto = omega arith; scan = rw e (sym (scan-none n)); well = rw e }
+
+module _ {t : List ℕ} {n i : ℕ} {s : Scan} (f : Surveying t n i s) where
+  pub skip-small : s .skip + i ≤ n
+  skip-small =
+      let ls = linesOf (n - i) (drop (i * 16) t) in
+      let e : s .skip ≡ depth ls = ap (λ (x : Scan). x .skip) (f .scan) in
+      omega (arith, depth-small ls, length-lines (n - i) (drop (i * 16) t), f .upto)
+
+  pub count-small : s .count + i ≤ n
+  count-small =
+      let ls = linesOf (n - i) (drop (i * 16) t) in
+      let e : s .count ≡ length (standing ls) = ap (λ (x : Scan). x .count) (f .scan) in
+      omega (arith, standing-small ls, length-lines (n - i) (drop (i * 16) t), f .upto)
+
+  pub surveying-bad : (j : ℕ) → i ≡ suc j → lineOf (bytesAt t j) ≡ Malformed → ledgerMalformed t n ≡ true
+  unfolding ledgerMalformed
+  surveying-bad j e b =
+      let m : someMalformed (n - j) (drop (j * 16) t) ≡ true = malformed-from t n j (omega (arith, f .upto)) ∙ rw b in
+      rw (malformed-later t n j (omega (arith, f .upto)) m) (or-true (ltb (capacity t) n))
+
+  pub surveying-more : (j : ℕ) (l : Line) (s′ : Scan) → i ≡ suc j → lineOf (bytesAt t j) ≡ WellFormed l → s′ ≡ scanBack s j l → Surveying t n j s′
+  surveying-more j l s′ e b q =
+      let h : j < n = omega (arith, f .upto) in
+      let k : Surveying t n (suc j) s = rw e at f in
+      let g : l ≡ fieldsOf (big (bytesAt t j)) = line-fields (bytesAt t j) l b in
+      record {
+        upto = omega arith;
+        scan = q ∙ ap (λ (x : Scan). scanBack x j l) (k .scan) ∙ ap (scanBack _ j) g ∙ scan-more j _ _ ∙ ap (scanOf j) (sym (lines-from t n j h));
+        well = malformed-from t n j h ∙ rw b (k .well);
+      }
+
+  whole : i ≡ 0 → (s ≡ scanOf 0 (linesOf n t)) × (someMalformed n t ≡ false)
+  whole e =
+      let k : Surveying t n 0 s = rw e at f in
+      let z : n - 0 ≡ n = omega arith in
+      (k .scan ∙ ap (λ (m : ℕ). scanOf 0 (linesOf m t)) z, ap (λ (m : ℕ). someMalformed m t) (sym z) ∙ k .well)
+
+  verdict : (b : Bool) → i ≡ 0 → n ≤ capacity t → ltb 0 (s .skip) ≡ b → ledgerMalformed t n ≡ b
+  unfolding ledgerMalformed
+  verdict b e h q =
+      let w = whole e in
+      let d : s .skip ≡ depth (linesOf n t) = ap (λ (x : Scan). x .skip) (w .0) in
+      rw (le-ltb (capacity t) n h, w .1, overdrawn-all, ← d, q)
+
+  pub surveying-over : i ≡ 0 → n ≤ capacity t → 0 < s .skip → ledgerMalformed t n ≡ true
+  surveying-over e h k = verdict true e h (lt-ltb _ _ k)
+
+  pub surveying-done : i ≡ 0 → n ≤ capacity t → s .skip ≤ 0 → Y.Surveyed (record { last = s .last; keep = s .keep; count = s .count }) ≡ surveyOf t n
+  unfolding surveyOf
+  surveying-done e h k =
+      let w = whole e in
+      rw (verdict false e h (le-ltb 0 (s .skip) k)) (ap (λ (x : Scan). Y.Surveyed (record { last = x .last; keep = x .keep; count = x .count })) (w .0))
+
+-- the answer of a survey that meets refusal 20
+pub survey-refused : (t : List ℕ) (n : ℕ) → ledgerMalformed t n ≡ true → Y.Malformed ≡ surveyOf t n
+unfolding surveyOf
+survey-refused t n e = rw e
+
+pub claimed-more : (t : List ℕ) (n : ℕ) → capacity t < n → ledgerMalformed t n ≡ true
+unfolding ledgerMalformed
+claimed-more t n h = rw (lt-ltb (capacity t) n h)
+
+-- what a survey's answer says
+
+survey-tests : (t : List ℕ) (n : ℕ) → surveyOf t n ≡ if_then_else_ (ledgerMalformed t n) Y.Malformed (Y.Surveyed (summaryOf (linesOf n t)))
+unfolding surveyOf
+survey-tests t n = refl
+
+pub survey-malformed : (t : List ℕ) (n : ℕ) → surveyOf t n ≡ Y.Malformed → ledgerMalformed t n ≡ true
+survey-malformed t n e = go (ledgerMalformed t n) (sym (survey-tests t n) ∙ e)
+  where
+    go : (b : Bool) → if_then_else_ b Y.Malformed (Y.Surveyed (summaryOf (linesOf n t))) ≡ Y.Malformed → b ≡ true
+    go true q = refl
+    go false q = let z : _≡_ {A = ℕ} 0 1 = cc in absurd (omega arith)
+
+pub record Sound (t : List ℕ) (n : ℕ) (s : Summary) : Type 0 where
+  pub well : ledgerMalformed t n ≡ false
+  pub is : s ≡ summaryOf (linesOf n t)
+
+pub survey-sound : (t : List ℕ) (n : ℕ) (s : Summary) → surveyOf t n ≡ Y.Surveyed s → Sound t n s
+survey-sound t n s e = go (ledgerMalformed t n) refl (sym (survey-tests t n) ∙ e)
+  where
+    go : (b : Bool) → ledgerMalformed t n ≡ b → if_then_else_ b Y.Malformed (Y.Surveyed (summaryOf (linesOf n t))) ≡ Y.Surveyed s → Sound t n s
+    go true p q = let z : _≡_ {A = ℕ} 0 1 = cc in absurd (omega arith)
+    go false p q = record { well = p; is = cc }

@@ -1,0 +1,79 @@
+use Rattle.ledger.proofs.Scanning.{Surveying, surveying-start, surveying-bad, surveying-more, surveying-over, surveying-done, skip-small, count-small, survey-refused, claimed-more}
+use borrow.Author.Needs.{needs}
+use native.Mathlib.Omega.{arith}
+use Prim.Native.Nat.{ℕ, _-_}
+use mathlib.Core.Path.{sym, _∙_}
+use Rattle.ledger.proofs.survey.Statement.{statement}
+use Rattle.ledger.proofs.survey.Tie as tie
+
+abbrev Inv-loop : tie.InvT-loop
+Inv-loop ledger lines s₀ i₀ s i = Surveying ledger lines i s
+
+abbrev μ-loop : tie.MeasureT-loop
+μ-loop ledger lines s₀ i₀ s i = i
+
+returns : tie.Need-returns Inv-loop μ-loop
+returns c = survey-refused _ _ (claimed-more _ _ (c .if1 .taken))
+
+loop-holds : tie.Need-loop-holds Inv-loop μ-loop
+loop-holds c = surveying-start _ _
+
+sub-i : tie.Need-sub-i Inv-loop μ-loop
+sub-i c = omega arith
+
+line-at-requires : tie.Need-line-at-requires Inv-loop μ-loop
+line-at-requires c κs = search needs
+
+enum-known-line : tie.Need-enum-known-line Inv-loop μ-loop
+enum-known-line c = search needs
+
+enum-told : tie.Need-enum-told Inv-loop μ-loop
+enum-told c = search needs
+
+returns-2 : tie.Need-returns-2 Inv-loop μ-loop
+returns-2 c =
+    let f = c .before .before .before .before .loop .inv in
+    let j : ℕ = c .before .before .before .before .loop .i - 1 in
+    survey-refused _ _ (surveying-bad f j (omega arith) (sym (c .before .before .line-at .ensures) ∙ c .enum-told .given .1))
+
+scan-back-requires : tie.Need-scan-back-requires Inv-loop μ-loop
+scan-back-requires c κs =
+    let f = c .before .before .before .before .before .loop .inv in
+    (omega (arith, skip-small f), omega (arith, count-small f))
+
+loop-less : tie.Need-loop-less Inv-loop μ-loop
+loop-less c = omega arith
+
+loop-again : tie.Need-loop-again Inv-loop μ-loop
+loop-again c =
+    let f = c .before .before .before .before .before .before .loop .inv in
+    surveying-more f _ _ _ (omega arith) (sym (c .before .before .before .before .line-at .ensures) ∙ c .before .before .line .given .1) (c .scan-back .ensures)
+
+returns-3 : tie.Need-returns-3 Inv-loop μ-loop
+returns-3 c =
+    let f = c .before .before .before .loop .inv in
+    survey-refused _ _ (surveying-over f (omega arith) (omega arith) (c .if2 .taken))
+
+returns-4 : tie.Need-returns-4 Inv-loop μ-loop
+returns-4 c =
+    let f = c .before .before .before .loop .inv in
+    surveying-done f (omega arith) (omega arith) (c .if2 .left)
+
+pub survey-spec : {M : Type 1} → statement M
+survey-spec =
+    tie.close
+    (tie.spec
+    Inv-loop
+    μ-loop
+    returns
+    loop-holds
+    sub-i
+    line-at-requires
+    enum-known-line
+    enum-told
+    returns-2
+    scan-back-requires
+    loop-less
+    loop-again
+    returns-3
+    returns-4)

@@ -1,0 +1,4 @@
+pub mod WritingLaws
+pub mod Lengths
+pub mod Entering
+pub mod Showing
