@@ -1,0 +1,167 @@
+// FORMAT 86: the pixels of a frame whose large intensities stand in a table of text.
+ghost use mathlib.Core.Path.{_≡_};
+ghost use mathlib.Core.List.{map};
+ghost use Prim.Native.Nat.{_+_, _*_, _≤_};
+ghost use lib.ListN.{length, drop, replicate};
+ghost use Rattle.lists.specs.Choose.{if_then_else_};
+ghost use Rattle.overflow86.specs.Entries.{afterSpaces, digitsNumber, textNumber, entryOf, textEntries};
+ghost use Rattle.overflow86.specs.Steps.{takes, put, placing, placed, count, waitingIf, oneIf};
+use refusal::Refusal;
+
+// A number of an entry.
+pub enum Number {
+    Value(u32),
+    Malformed,
+}
+
+// An entry of the table.
+pub enum Entry {
+    Read { intensity: u32, pixel: u32 },
+    Malformed,
+}
+
+// Whether the entries may stand.
+pub enum Checked {
+    Good,
+    Refused(Refusal),
+}
+
+// Where the spaces at the front of t end.
+fn spaces_end(t: &[u8]) -> usize
+    ensures { λ r. ⌜ (r ≤ length (now (t .entry))) × (drop r (now (t .entry)) ≡ afterSpaces (now (t .entry))) ⌝ }
+{
+    let mut i = 0;
+    while i < t.len() {
+        if t[i] != 32 {
+            return i;
+        }
+        i += 1;
+    }
+    i
+}
+
+// The number whose digits are those of t from `from` on.
+fn digits_number(t: &[u8], from: usize) -> Number
+    requires { ⌜ length (now t) ≤ 9 ⌝ }
+    ensures { λ r. ⌜ r ≡ digitsNumber (drop from (now (t .entry))) ⌝ }
+{
+    if t.len() <= from {
+        return Number::Malformed;
+    }
+    let mut v: u32 = 0;
+    let mut i = from;
+    while i < t.len() {
+        let b = t[i];
+        if b < 48 {
+            return Number::Malformed;
+        }
+        if 57 < b {
+            return Number::Malformed;
+        }
+        v = v * 10 + (b - 48) as u32;
+        i += 1;
+    }
+    Number::Value(v)
+}
+
+fn text_number(t: &[u8]) -> Number
+    requires { ⌜ length (now t) ≤ 9 ⌝ }
+    ensures { λ r. ⌜ r ≡ textNumber (now (t .entry)) ⌝ }
+{
+    let from = spaces_end(t);
+    digits_number(t, from)
+}
+
+// The entry whose 16 characters start at `at`.
+fn entry_at(table: &[u8], at: usize) -> Entry
+    requires { ⌜ at + 16 ≤ length (now table) ⌝ }
+    ensures { λ r. ⌜ r ≡ entryOf (drop at (now (table .entry))) ⌝ }
+{
+    let mid = at + 9;
+    let end = at + 16;
+    let Number::Value(intensity) = text_number(&table[at..mid]) else {
+        return Entry::Malformed;
+    };
+    let Number::Value(pixel) = text_number(&table[mid..end]) else {
+        return Entry::Malformed;
+    };
+    Entry::Read { intensity, pixel }
+}
+
+// Puts an entry's intensity into its pixel, if that waits for it.
+fn place_entry(e: Entry, pixels: &mut [u32]) -> bool
+    ensures { λ r. ⌜ r ≡ takes (now (pixels .entry)) e ⌝ }
+    ensures { λ r. ⌜ now (pixels .exit) ≡ if_then_else_ (takes (now (pixels .entry)) e) (put (now (pixels .entry)) e) (now (pixels .entry)) ⌝ }
+{
+    let Entry::Read { intensity, pixel } = e else {
+        return false;
+    };
+    let p = pixel as usize;
+    if pixels.len() <= p {
+        return false;
+    }
+    if pixels[p] != 4294967295 {
+        return false;
+    }
+    pixels[p] = intensity;
+    true
+}
+
+// Takes the n entries of the table in file order; the first bad one decides.
+fn place_entries(table: &[u8], n: u32, pixels: &mut [u32]) -> Checked
+    requires { ⌜ n * 16 ≤ length (now table) ⌝ }
+    ensures { λ r. ⌜ r ≡ placing (now (pixels .entry)) 0 (textEntries n (now (table .entry))) ⌝ }
+    ensures { λ _. ⌜ now (pixels .exit) ≡ placed (now (pixels .entry)) (textEntries n (now (table .entry))) ⌝ }
+{
+    let mut checked = Checked::Good;
+    let mut k: u32 = 0;
+    while k < n {
+        let at = k as usize * 16;
+        let e = entry_at(table, at);
+        if place_entry(e, pixels) {
+            k += 1;
+        } else {
+            checked = Checked::Refused(Refusal::BadEntry { entry: k });
+            break;
+        }
+    }
+    checked
+}
+
+fn waiting_if(v: u32, mark: u32) -> u32
+    ensures { λ r. ⌜ r ≡ waitingIf mark v ⌝ }
+{
+    if v == mark { 4294967295 } else { v }
+}
+
+fn one_if(v: u32, mark: u32) -> usize
+    ensures { λ r. ⌜ r ≡ oneIf mark v ⌝ }
+{
+    if v == mark { 1 } else { 0 }
+}
+
+// Makes each mark of the pixels wait, and counts them.
+fn await_entries(pixels: &mut [u32], mark: u32) -> usize
+    ensures { λ r. ⌜ r ≡ count mark (now (pixels .entry)) ⌝ }
+    ensures { λ _. ⌜ now (pixels .exit) ≡ map (waitingIf mark) (now (pixels .entry)) ⌝ }
+{
+    let mut marks: usize = 0;
+    let mut i = 0;
+    while i < pixels.len() {
+        let v = pixels[i];
+        pixels[i] = waiting_if(v, mark);
+        marks += one_if(v, mark);
+        i += 1;
+    }
+    marks
+}
+
+fn clear(pixels: &mut [u32])
+    ensures { λ _. ⌜ now (pixels .exit) ≡ replicate (length (now (pixels .entry))) 0 ⌝ }
+{
+    let mut i = 0;
+    while i < pixels.len() {
+        pixels[i] = 0;
+        i += 1;
+    }
+}
