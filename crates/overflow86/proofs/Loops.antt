@@ -4,10 +4,9 @@ use mathlib.Core.Path.{_≡_, refl, sym, ap, _∙_}
 use mathlib.Core.Bool.{Bool, true, false}
 use mathlib.Core.List.{List, [], _∷_, _++_, map, append-nil}
 use Prim.Native.Nat.{ℕ, zero, suc, _+_, _-_, _*_, _≤_, _<_}
-use native.Mathlib.Nat.{sub-zero}
 use native.Mathlib.Numerals.{add-one}
 use native.Mathlib.Omega.{arith}
-use lib.ListN.{length, getD, take, drop, set, replicate, length-set, drop-of-length-le}
+use lib.ListN.{length, getD, take, drop, set, length-set, drop-of-length-le}
 use lib.Seq.{drop-cons, take-suc-set, drop-set-lt, append-snoc, take-all}
 use lib.Dec.{eqb}
 use borrow.Author.Tests.{eq-eqb, ne-eqb, lt-ltb, le-ltb}
@@ -17,7 +16,7 @@ use Rattle.overflow86.specs.declared.Entry.{Entry}
 use Rattle.overflow86.specs.declared.Entry.the-variants as E
 use Rattle.overflow86.specs.declared.Checked.the-variants as C
 use Rattle.overflow86.specs.Entries.{entryOf, textEntries}
-use Rattle.overflow86.specs.Steps.{waiting, takes, put, placing, placed, count, waitingIf, oneIf}
+use Rattle.overflow86.specs.Steps.{waiting, takes, put, placing, placed, countOf, waitingIf, oneIf}
 use Rattle.overflow86.proofs.Texts.{entries-length, entries-at}
 
 pub put-length : (px : List ℕ) (e : Entry) → length (put px e) ≡ length px
@@ -52,11 +51,11 @@ module _ {px₀ px : List ℕ} {es : List Entry} {k : ℕ} (f : Placing px₀ px
   unfolding placing placed
   placing-end h = (rw (drop-of-length-le es h) at (f .went), rw (drop-of-length-le es h) at (f .are))
 
-pub count-cons : (m x : ℕ) (xs : List ℕ) → count m (x ∷ xs) ≡ oneIf m x + count m xs
-unfolding count
+pub count-cons : (m x : ℕ) (xs : List ℕ) → countOf m (x ∷ xs) ≡ oneIf m x + countOf m xs
+unfolding countOf
 count-cons m x xs = go (eqb x m) refl
   where
-    go : (t : Bool) → eqb x m ≡ t → count m (x ∷ xs) ≡ oneIf m x + count m xs
+    go : (t : Bool) → eqb x m ≡ t → countOf m (x ∷ xs) ≡ oneIf m x + countOf m xs
     go true e = rw e (omega arith)
     go false e = rw e (omega arith)
 
@@ -72,7 +71,7 @@ pub record Awaiting (m : ℕ) (px₀ px : List ℕ) (n i : ℕ) : Type 0 where
   pub upto : i ≤ length px
   pub same : length px ≡ length px₀
   pub low : n ≤ i
-  pub marks : n + count m (drop i px) ≡ count m px₀
+  pub marks : n + countOf m (drop i px) ≡ countOf m px₀
   pub is : take i px ++ map (waitingIf m) (drop i px) ≡ map (waitingIf m) px₀
 
 pub awaiting-start : (m : ℕ) (px : List ℕ) → Awaiting m px px 0 0
@@ -81,7 +80,7 @@ awaiting-start m px = record { upto = omega arith; same = refl; low = omega arit
 module _ {m : ℕ} {px₀ px : List ℕ} {n i : ℕ} (f : Awaiting m px₀ px n i) where
   pub awaiting-on : (v z : ℕ) → i < length px → v ≡ waitingIf m (getD px i 0) → z ≡ oneIf m (getD px i 0) → Awaiting m px₀ (set px i v) (n + z) (i + 1)
   awaiting-on v z h ev ez =
-      let c : count m (drop i px) ≡ oneIf m (getD px i 0) + count m (drop (suc i) px) = rw (drop-cons px i 0 h) (count-cons m (getD px i 0) (drop (suc i) px)) in
+      let c : countOf m (drop i px) ≡ oneIf m (getD px i 0) + countOf m (drop (suc i) px) = rw (drop-cons px i 0 h) (count-cons m (getD px i 0) (drop (suc i) px)) in
       record {
         upto = simp length-set (omega arith);
         same = simp length-set (f .same);
@@ -90,35 +89,11 @@ module _ {m : ℕ} {px₀ px : List ℕ} {n i : ℕ} (f : Awaiting m px₀ px n 
         is = rw (add-one i, drop-set-lt (suc i) px i v (omega arith), take-suc-set px i v h, append-snoc, ev) (rw (drop-cons px i 0 h) at (f .is));
       }
 
-  pub awaiting-end : length px ≤ i → (n ≡ count m px₀) × (px ≡ map (waitingIf m) px₀)
-  unfolding count
+  pub awaiting-end : length px ≤ i → (n ≡ countOf m px₀) × (px ≡ map (waitingIf m) px₀)
+  unfolding countOf
   awaiting-end h =
       let k = rw (drop-of-length-le px h) at (f .marks) in
       (omega (arith, k), sym (append-nil px) ∙ (rw (drop-of-length-le px h, take-all i px h) at (f .is)))
-
--- the pixels before i are 0
-pub record Clearing (px₀ px : List ℕ) (i : ℕ) : Type 0 where
-  pub upto : i ≤ length px
-  pub same : length px ≡ length px₀
-  pub is : take i px ++ replicate (length px₀ - i) 0 ≡ replicate (length px₀) 0
-
-pub clearing-start : (px : List ℕ) → Clearing px px 0
-clearing-start px = record { upto = omega arith; same = refl; is = rw (sub-zero (length px)) }
-
-module _ {px₀ px : List ℕ} {i : ℕ} (f : Clearing px₀ px i) where
-  pub clearing-on : i < length px → Clearing px₀ (set px i 0) (i + 1)
-  clearing-on h =
-      let n : length px₀ - i ≡ suc (length px₀ - (i + 1)) = omega (arith, f .same) in
-      record {
-        upto = simp length-set (omega arith);
-        same = simp length-set (f .same);
-        is = rw (add-one i, take-suc-set px i 0 h, append-snoc, ← add-one i) (rw n at (f .is));
-      }
-
-  pub clearing-end : length px ≤ i → px ≡ replicate (length px₀) 0
-  clearing-end h =
-      let n : length px₀ - i ≡ 0 = omega (arith, f .same) in
-      sym (append-nil px) ∙ (rw (n, take-all i px h) at (f .is))
 
 -- one law for each way through the taking of an entry
 module _ (px : List ℕ) {e : Entry} {v p : ℕ} (q : e ≡ E.Read v p) where

@@ -5,6 +5,8 @@ use mathlib.Core.List.{List, [], _∷_, map}
 use lib.ListN.{length, getD, set}
 use lib.Dec.{eqb, ltb}
 use Rattle.lists.specs.Choose.{if_then_else_}
+use Rattle.layout.specs.declared.Width.{Width}
+use Rattle.layout.specs.declared.Width.the-variants as W
 use Rattle.refusal.specs.declared.Refusal.the-variants as R
 use Rattle.overflow86.specs.declared.Entry.{Entry}
 use Rattle.overflow86.specs.declared.Entry.the-variants as E
@@ -34,13 +36,40 @@ unfoldable pub placed : List ℕ → List Entry → List ℕ
 placed px [] = px
 placed px (e ∷ es) = if takes px e then placed (put px e) es else px
 
+-- in width 4 no pixel waits, whatever its value
+abbrev pub hasMarks : Width → Bool
+hasMarks W.One = true
+hasMarks W.Two = true
+hasMarks W.Four = false
+
+abbrev pub noEntries : List Entry → Checked
+noEntries [] = C.Good
+noEntries (e ∷ es) = C.Refused (R.BadEntry 0)
+
+abbrev pub placingIn : Width → List ℕ → List Entry → Checked
+placingIn w px es = if hasMarks w then placing px 0 es else noEntries es
+
+abbrev pub placedIn : Width → List ℕ → List Entry → List ℕ
+placedIn w px es = if hasMarks w then placed px es else px
+
 -- how many of xs are m
-unfoldable pub count : ℕ → List ℕ → ℕ
-count m [] = 0
-count m (x ∷ xs) = if eqb x m then suc (count m xs) else count m xs
+unfoldable pub countOf : ℕ → List ℕ → ℕ
+countOf m [] = 0
+countOf m (x ∷ xs) = if eqb x m then suc (countOf m xs) else countOf m xs
 
 abbrev pub waitingIf : ℕ → ℕ → ℕ
 waitingIf m x = if eqb x m then waiting else x
 
 abbrev pub oneIf : ℕ → ℕ → ℕ
 oneIf m x = if eqb x m then 1 else 0
+
+-- how many pixels of the stored image vs are marked, and the image with these waiting
+abbrev pub marksIn : Width → List ℕ → ℕ
+marksIn W.One vs = countOf 255 vs
+marksIn W.Two vs = countOf 65535 vs
+marksIn W.Four vs = 0
+
+abbrev pub awaiting : Width → List ℕ → List ℕ
+awaiting W.One vs = map (waitingIf 255) vs
+awaiting W.Two vs = map (waitingIf 65535) vs
+awaiting W.Four vs = vs

@@ -2,10 +2,14 @@
 ghost use mathlib.Core.Path.{_≡_};
 ghost use mathlib.Core.List.{map};
 ghost use Prim.Native.Nat.{_+_, _*_, _≤_};
-ghost use lib.ListN.{length, drop, replicate};
+ghost use lib.ListN.{length, drop};
 ghost use Rattle.lists.specs.Choose.{if_then_else_};
+ghost use Rattle.layout.specs.Form.{widthBytes};
+ghost use Rattle.table.specs.Table.{entries};
 ghost use Rattle.overflow86.specs.Entries.{afterSpaces, digitsNumber, textNumber, entryOf, textEntries};
-ghost use Rattle.overflow86.specs.Steps.{takes, put, placing, placed, count, waitingIf, oneIf};
+ghost use Rattle.overflow86.specs.Expand86.{checkedOf, answerBy, framePixels, textAnswer, textPixels};
+ghost use Rattle.overflow86.specs.Steps.{takes, put, placing, placed, hasMarks, placingIn, placedIn, countOf, marksIn, awaiting, waitingIf, oneIf};
+use layout::{Image, Width};
 use refusal::Refusal;
 
 // A number of an entry.
@@ -23,6 +27,12 @@ pub enum Entry {
 // Whether the entries may stand.
 pub enum Checked {
     Good,
+    Refused(Refusal),
+}
+
+// The place where the frame ends, or why there is none.
+pub enum Expanded86 {
+    Frame { end: u64 },
     Refused(Refusal),
 }
 
@@ -142,7 +152,7 @@ fn one_if(v: u32, mark: u32) -> usize
 
 // Makes each mark of the pixels wait, and counts them.
 fn await_entries(pixels: &mut [u32], mark: u32) -> usize
-    ensures { λ r. ⌜ r ≡ count mark (now (pixels .entry)) ⌝ }
+    ensures { λ r. ⌜ r ≡ countOf mark (now (pixels .entry)) ⌝ }
     ensures { λ _. ⌜ now (pixels .exit) ≡ map (waitingIf mark) (now (pixels .entry)) ⌝ }
 {
     let mut marks: usize = 0;
@@ -156,12 +166,101 @@ fn await_entries(pixels: &mut [u32], mark: u32) -> usize
     marks
 }
 
-fn clear(pixels: &mut [u32])
-    ensures { λ _. ⌜ now (pixels .exit) ≡ replicate (length (now (pixels .entry))) 0 ⌝ }
+// The stored image, with its marks waiting and counted.
+fn load_marks(image: &[u8], w: Width, mark: u32, pixels: &mut [u32]) -> usize
+    requires { ⌜ length (now pixels) * widthBytes w ≤ length (now image) ⌝ }
+    ensures { λ r. ⌜ r ≡ countOf mark (entries (widthBytes w) (length (now (pixels .entry))) (now (image .entry))) ⌝ }
+    ensures { λ _. ⌜ now (pixels .exit) ≡ map (waitingIf mark) (entries (widthBytes w) (length (now (pixels .entry))) (now (image .entry))) ⌝ }
 {
-    let mut i = 0;
-    while i < pixels.len() {
-        pixels[i] = 0;
-        i += 1;
+    table::load(image, w, pixels);
+    await_entries(pixels, mark)
+}
+
+// A width written at the call makes the read of a pixel a single load.
+fn load_waiting(image: &[u8], w: Width, pixels: &mut [u32]) -> usize
+    requires { ⌜ length (now pixels) * widthBytes w ≤ length (now image) ⌝ }
+    ensures { λ r. ⌜ r ≡ marksIn w (entries (widthBytes w) (length (now (pixels .entry))) (now (image .entry))) ⌝ }
+    ensures { λ _. ⌜ now (pixels .exit) ≡ awaiting w (entries (widthBytes w) (length (now (pixels .entry))) (now (image .entry))) ⌝ }
+{
+    match w {
+        Width::One => load_marks(image, Width::One, 255, pixels),
+        Width::Two => load_marks(image, Width::Two, 65535, pixels),
+        Width::Four => {
+            table::load(image, Width::Four, pixels);
+            0
+        }
     }
+}
+
+fn has_marks(w: Width) -> bool
+    ensures { λ r. ⌜ r ≡ hasMarks w ⌝ }
+{
+    match w {
+        Width::One => true,
+        Width::Two => true,
+        Width::Four => false,
+    }
+}
+
+// In width 4 no pixel waits, whatever its value.
+fn take_entries(w: Width, table: &[u8], n: u32, pixels: &mut [u32]) -> Checked
+    requires { ⌜ n * 16 ≤ length (now table) ⌝ }
+    ensures { λ r. ⌜ r ≡ placingIn w (now (pixels .entry)) (textEntries n (now (table .entry))) ⌝ }
+    ensures { λ _. ⌜ now (pixels .exit) ≡ placedIn w (now (pixels .entry)) (textEntries n (now (table .entry))) ⌝ }
+{
+    if has_marks(w) {
+        return place_entries(table, n, pixels);
+    }
+    if n == 0 {
+        return Checked::Good;
+    }
+    Checked::Refused(Refusal::BadEntry { entry: 0 })
+}
+
+// The whole array, from the image's bytes and the table's.
+fn fill(image: &[u8], w: Width, table: &[u8], n: u32, pixels: &mut [u32]) -> Checked
+    requires { ⌜ (length (now pixels) * widthBytes w ≤ length (now image)) × (n * 16 ≤ length (now table)) ⌝ }
+    ensures { λ r. ⌜ r ≡ checkedOf w (entries (widthBytes w) (length (now (pixels .entry))) (now (image .entry))) (textEntries n (now (table .entry))) ⌝ }
+    ensures { λ _. ⌜ now (pixels .exit) ≡ framePixels w (entries (widthBytes w) (length (now (pixels .entry))) (now (image .entry))) (textEntries n (now (table .entry))) ⌝ }
+{
+    let marks = load_waiting(image, w, pixels);
+    let checked = take_entries(w, table, n, pixels);
+    let Checked::Good = checked else {
+        table::clear(pixels);
+        return checked;
+    };
+    if marks == n as usize {
+        return checked;
+    }
+    table::clear(pixels);
+    Checked::Refused(Refusal::CountMismatch)
+}
+
+fn answer_by(checked: Checked, end: u64) -> Expanded86
+    ensures { λ r. ⌜ r ≡ answerBy checked end ⌝ }
+{
+    match checked {
+        Checked::Good => Expanded86::Frame { end },
+        Checked::Refused(r) => Expanded86::Refused(r),
+    }
+}
+
+// The pixels of a frame of FORMAT 86, whose table has so many entries.
+pub fn expand86(bytes: &[u8], image: Image, count: u32, pixels: &mut [u32]) -> Expanded86
+    ensures { λ r. ⌜ r ≡ textAnswer (now (bytes .entry)) image count (length (now (pixels .entry))) ⌝ }
+    ensures { λ _. ⌜ now (pixels .exit) ≡ textPixels (now (bytes .entry)) image count (now (pixels .entry)) ⌝ }
+{
+    let n = layout::pixel_count(image);
+    if pixels.len() < n {
+        return Expanded86::Refused(Refusal::PixelArrayShort);
+    }
+    let w = image.width;
+    let start = image.start as usize;
+    let table = start + n * layout::width_bytes(w);
+    let end = table + layout::text_table_bytes(count);
+    if bytes.len() < end {
+        return Expanded86::Refused(Refusal::DataTruncated);
+    }
+    let checked = fill(&bytes[start..table], w, &bytes[table..end], count, &mut pixels[..n]);
+    answer_by(checked, end as u64)
 }
