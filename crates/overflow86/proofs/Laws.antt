@@ -151,6 +151,7 @@ module _ (w : Width) (vs : List ℕ) (plain : (i : ℕ) → getD vs i 0 < waitin
           → eqb (if_then_else_ (isMarked w (getD vs p 0)) (intensityAt waiting p es) (getD vs p 0)) waiting ≡ (isMarked w (getD vs p 0) && not (hasEntry p es))
       by-mark true q = rw q (waits p es s)
       by-mark false q = rw q (ne-eqb (getD vs p 0) waiting (λ k. omega (arith, plain p)))
+
       go : (t : Bool) → ltb p (length vs) ≡ t
           → (ltb p (length vs) && eqb (getD (held w vs es) p 0) waiting) ≡ (ltb p (length vs) && isMarked w (getD vs p 0) && not (hasEntry p es))
       go false q = rw q
@@ -163,6 +164,7 @@ module _ (w : Width) (vs : List ℕ) (plain : (i : ℕ) → getD vs i 0 < waitin
       after : getD (held w vs (es ++ (E.Read v p ∷ []))) j 0
           ≡ if_then_else_ (isMarked w (getD vs j 0)) (intensityAt (intensityAt waiting j (E.Read v p ∷ [])) j es) (getD vs j 0)
       after = rw (with-at waiting w (es ++ (E.Read v p ∷ [])) 0 vs j h, zero-add j, intensity-append waiting j es (E.Read v p ∷ []))
+
       go : (t : Bool) → eqb j p ≡ t → getD (set (held w vs es) p v) j 0 ≡ getD (held w vs (es ++ (E.Read v p ∷ []))) j 0
       go true q =
           let e : j ≡ p = eqb-true j p q in

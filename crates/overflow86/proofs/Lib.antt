@@ -1,3 +1,4 @@
 pub mod Texts
 pub mod Loops
 pub mod Laws
+pub mod Frame

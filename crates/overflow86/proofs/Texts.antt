@@ -8,10 +8,11 @@ use native.Mathlib.Nat.{add-zero, add-suc, suc-add, zero-mul, suc-mul, pow-suc, 
 use native.Mathlib.Numerals.{add-one}
 use native.Mathlib.Omega.{arith}
 use lib.ListN.{length, getD, take, drop, length-take, length-drop, drop-of-length-le}
-use lib.Seq.{drop-cons, drop-drop}
+use lib.Seq.{drop-cons, drop-drop, take-take}
 use lib.Dec.{eqb, leb, ltb}
 use borrow.Author.Tests.{eq-eqb, ne-eqb, le-leb, lt-leb, lt-ltb, leb-true}
 use Rattle.lists.specs.Choose.{if_then_else_}
+use Rattle.lists.proofs.Parts.{drop-take}
 use Rattle.overflow86.specs.declared.Number.{Number}
 use Rattle.overflow86.specs.declared.Number.the-variants as N
 use Rattle.overflow86.specs.declared.Entry.{Entry}
@@ -170,3 +171,15 @@ entry-parts t at =
     let n : at + 9 - at ≡ 9 = omega arith in
     let m : at + 16 - (at + 9) ≡ 7 = omega arith in
     rw (n, m, drop-drop)
+
+-- characters past the entries do not count
+entry-take : (m : ℕ) (t : List ℕ) → 16 ≤ m → entryOf (take m t) ≡ entryOf t
+unfolding entryOf
+entry-take m t h = rw (take-take 9 m t (omega arith), drop-take 9 m t, take-take 7 (m - 9) (drop 9 t) (omega arith))
+
+pub entries-take : (n m : ℕ) (t : List ℕ) → n * 16 ≤ m → textEntries n (take m t) ≡ textEntries n t
+unfolding textEntries
+entries-take zero m t h = refl
+entries-take (suc n) m t h =
+    let k : suc n * 16 ≡ n * 16 + 16 = omega arith in
+    rw (entry-take m t (omega arith), drop-take 16 m t, entries-take n (m - 16) (drop 16 t) (omega arith))

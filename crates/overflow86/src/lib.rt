@@ -9,7 +9,8 @@ ghost use Rattle.table.specs.Table.{entries};
 ghost use Rattle.overflow86.specs.Entries.{afterSpaces, digitsNumber, textNumber, entryOf, textEntries};
 ghost use Rattle.overflow86.specs.Expand86.{checkedOf, answerBy, framePixels, textAnswer, textPixels};
 ghost use Rattle.overflow86.specs.Steps.{takes, put, placing, placed, hasMarks, placingIn, placedIn, countOf, marksIn, awaiting, waitingIf, oneIf};
-use layout::{Image, Width};
+use layout::Image;
+use layout::Width;
 use refusal::Refusal;
 
 // A number of an entry.
@@ -261,6 +262,12 @@ pub fn expand86(bytes: &[u8], image: Image, count: u32, pixels: &mut [u32]) -> E
     if bytes.len() < end {
         return Expanded86::Refused(Refusal::DataTruncated);
     }
-    let checked = fill(&bytes[start..table], w, &bytes[table..end], count, &mut pixels[..n]);
+    let checked = fill(
+        &bytes[start..table],
+        w,
+        &bytes[table..end],
+        count,
+        &mut pixels[..n],
+    );
     answer_by(checked, end as u64)
 }

@@ -1,97 +1,94 @@
+use Prim.Native.Nat.{_+_, _*_, _≤_}
+use mathlib.Core.Path.{_≡_, refl, sym, _∙_}
+use native.Mathlib.Omega.{arith}
 use borrow.Author.Needs.{needs}
+use lib.ListN.{length}
+use lib.Seq.{length-take-le}
+use Rattle.layout.specs.Layout.{imageEnd, textEnd}
+use Rattle.layout.proofs.Laws.{bytes-le}
+use Rattle.overflow86.proofs.Frame.{table-small, short, truncated, framed, parts-room}
 use Rattle.overflow86.proofs.expand86.Statement.{statement}
 use Rattle.overflow86.proofs.expand86.Tie as tie
-use Rattle.overflow86.proofs.expand86.Reads as reads
-use Rattle.overflow86.proofs.expand86.Lts as lts
-use Rattle.layout.proofs.pixel_count.Reads as pixel-count-reads
-use Rattle.layout.proofs.text_table_bytes.Reads as text-table-bytes-reads
-use Rattle.layout.proofs.width_bytes.Reads as width-bytes-reads
-use Rattle.overflow86.proofs.answer_by.Reads as answer-by-reads
-use Rattle.overflow86.proofs.fill.Reads as fill-reads
 
--- src/lib.rt:243:9
 pixel-count-requires : tie.Need-pixel-count-requires
 pixel-count-requires c κs = search needs
 
--- src/lib.rt:245:9
 returns : tie.Need-returns
-returns c = ?
+returns c = short _ _ _ _ (rw (c .before .pixel-count .ensures) at (c .if1 .taken))
 
--- src/lib.rt:248:17
 cast-start : tie.Need-cast-start
 cast-start c = search needs
 
--- src/lib.rt:249:29
 width-bytes-requires : tie.Need-width-bytes-requires
 width-bytes-requires c κs = search needs
 
--- src/lib.rt:249:25
+bound : (c : tie.After-width-bytes) → c .before .before .before .pixel-count .result * c .width-bytes .result ≤ c .before .before .before .pixel-count .result * 4
+bound c = rw (c .width-bytes .ensures) (bytes-le (c .before .before .before .pixel-count .result) (c .before .before .before .before .before .before .args .image .width))
+
+table-is : (c : tie.After-width-bytes)
+    → c .before .before .before .before .before .before .args .image .start + c .before .before .before .pixel-count .result * c .width-bytes .result
+    ≡ imageEnd (c .before .before .before .before .before .before .args .image)
+table-is c = rw (c .before .before .before .pixel-count .ensures, c .width-bytes .ensures)
+
+end-is : (c : tie.After-text-table-bytes)
+    → c .before .before .before .before .before .before .before .args .image .start + c .before .before .before .before .pixel-count .result * c .before .width-bytes .result + c .text-table-bytes .result
+    ≡ textEnd (c .before .before .before .before .before .before .before .args .image) (c .before .before .before .before .before .before .before .args .count)
+end-is c = rw (c .before .before .before .before .pixel-count .ensures, c .before .width-bytes .ensures, c .text-table-bytes .ensures)
+
 mul-table : tie.Need-mul-table
-mul-table c = ?
+mul-table c = omega (arith, bound c)
 
--- src/lib.rt:249:17
 add-table : tie.Need-add-table
-add-table c = ?
+add-table c = omega (arith, bound c)
 
--- src/lib.rt:250:23
 text-table-bytes-requires : tie.Need-text-table-bytes-requires
 text-table-bytes-requires c κs = search needs
 
--- src/lib.rt:250:15
 add-end : tie.Need-add-end
-add-end c = ?
+add-end c = omega (arith, bound (c .before), c .text-table-bytes .ensures, table-small (c .before .before .before .before .before .before .before .args .count))
 
--- src/lib.rt:252:9
 returns-2 : tie.Need-returns-2
-returns-2 c = ?
+returns-2 c = truncated _ _ _ _ (rw (c .before .before .before .before .before .pixel-count .ensures) at (c .before .before .before .before .if1 .left)) (rw (end-is (c .before)) at (c .if2 .taken))
 
--- src/lib.rt:254:24
 sub-fill : tie.Need-sub-fill
 sub-fill c = search needs
 
--- src/lib.rt:254:24
 part-fill-start : tie.Need-part-fill-start
 part-fill-start c = search needs
 
--- src/lib.rt:254:24
 part-fill-end : tie.Need-part-fill-end
 part-fill-end c = search needs
 
--- src/lib.rt:254:49
 sub-fill-2 : tie.Need-sub-fill-2
 sub-fill-2 c = search needs
 
--- src/lib.rt:254:49
 part-fill-start-2 : tie.Need-part-fill-start-2
 part-fill-start-2 c = search needs
 
--- src/lib.rt:254:49
 part-fill-end-2 : tie.Need-part-fill-end-2
 part-fill-end-2 c = search needs
 
--- src/lib.rt:254:76
 slice-relend-prefix-fill : tie.Need-slice-relend-prefix-fill
 slice-relend-prefix-fill c = search needs
 
--- src/lib.rt:254:76
 slice-aggregate-fill : tie.Need-slice-aggregate-fill
-slice-aggregate-fill c = ?
+slice-aggregate-fill c = sym (length-take-le _ _ (c .before .before .before .before .before .before .before .if1 .left))
 
--- src/lib.rt:254:9
 fill-requires : tie.Need-fill-requires
-fill-requires c κs = ?
+fill-requires c κs =
+    let s = c .before .before .before .before .before .before .before .before .before .before .before in
+    parts-room (s .args .bytes .now) (s .args .pixels .now) (s .args .image) (s .args .count) _ _ _ _ (c .before .before .before .before .before .before .before .before .pixel-count .ensures) (c .before .before .before .before .before .before .before .if1 .left) refl (table-is (c .before .before .before .before .before)) (end-is (c .before .before .before .before)) (c .before .before .before .if2 .left)
 
--- src/lib.rt:255:5
 answer-by-requires : tie.Need-answer-by-requires
 answer-by-requires c κs = search needs
 
--- src/lib.rt:239:1
 same-length : tie.Need-same-length
 same-length c = search needs
 
--- src/lib.rt:239:1
 returns-3 : tie.Need-returns-3
-returns-3 c = ?
+returns-3 c =
+    let s = c .before .before .before .before .before .before .before .before .before .before .before .before .before .before .before in
+    framed (s .args .bytes .now) (s .args .pixels .now) (s .args .image) (s .args .count) _ _ _ _ _ _ _ (c .before .before .before .before .before .before .before .before .before .before .before .before .pixel-count .ensures) (c .before .before .before .before .before .before .before .before .before .before .before .if1 .left) refl (table-is (c .before .before .before .before .before .before .before .before .before)) (end-is (c .before .before .before .before .before .before .before .before)) (c .before .before .before .before .before .before .before .if2 .left) (c .before .before .before .fill .ensures) (c .answer-by .ensures)
 
 pub expand86-spec : {M : Type 1} → statement M
 expand86-spec =
