@@ -1,7 +1,8 @@
 // FORMAT 86: the pixels of a frame whose large intensities stand in a table of text.
 ghost use mathlib.Core.Path.{_≡_};
 ghost use mathlib.Core.List.{map};
-ghost use Prim.Native.Nat.{_+_, _*_, _≤_};
+ghost use Prim.Native.Nat.{_+_, _*_, _≤_, _<_};
+ghost use lib.Dec.{ltb};
 ghost use lib.ListN.{length, drop};
 ghost use Rattle.lists.specs.Choose.{if_then_else_};
 ghost use Rattle.layout.specs.Form.{widthBytes};
@@ -167,14 +168,58 @@ fn await_entries(pixels: &mut [u32], mark: u32) -> usize
     marks
 }
 
-// The stored image, with its marks waiting and counted.
-fn load_marks(image: &[u8], w: Width, mark: u32, pixels: &mut [u32]) -> usize
+// No early exit, so that the loop is made of vector instructions.
+fn has_mark(pixels: &[u32], mark: u32) -> bool
+    ensures { λ r. ⌜ r ≡ ltb 0 (countOf mark (now (pixels .entry))) ⌝ }
+{
+    let mut found = false;
+    let mut i = 0;
+    while i < pixels.len() {
+        if pixels[i] == mark {
+            found = true;
+        }
+        i += 1;
+    }
+    found
+}
+
+// A block of the stored image, with its marks waiting and counted.
+fn load_block(image: &[u8], w: Width, mark: u32, pixels: &mut [u32]) -> usize
     requires { ⌜ length (now pixels) * widthBytes w ≤ length (now image) ⌝ }
     ensures { λ r. ⌜ r ≡ countOf mark (entries (widthBytes w) (length (now (pixels .entry))) (now (image .entry))) ⌝ }
     ensures { λ _. ⌜ now (pixels .exit) ≡ map (waitingIf mark) (entries (widthBytes w) (length (now (pixels .entry))) (now (image .entry))) ⌝ }
 {
     table::load(image, w, pixels);
-    await_entries(pixels, mark)
+    if has_mark(pixels, mark) {
+        return await_entries(pixels, mark);
+    }
+    0
+}
+
+// The end of the block at p: 64 pixels stay in the nearest cache, and few blocks hold a mark.
+fn block_end(p: usize, n: usize) -> usize
+    requires { ⌜ p < n ⌝ }
+    ensures { λ r. ⌜ (p < r) × (r ≤ n) ⌝ }
+{
+    if 64 < n - p { p + 64 } else { n }
+}
+
+// The stored image by blocks, with its marks waiting and counted.
+fn load_marks(image: &[u8], w: Width, mark: u32, pixels: &mut [u32]) -> usize
+    requires { ⌜ length (now pixels) * widthBytes w ≤ length (now image) ⌝ }
+    ensures { λ r. ⌜ r ≡ countOf mark (entries (widthBytes w) (length (now (pixels .entry))) (now (image .entry))) ⌝ }
+    ensures { λ _. ⌜ now (pixels .exit) ≡ map (waitingIf mark) (entries (widthBytes w) (length (now (pixels .entry))) (now (image .entry))) ⌝ }
+{
+    let each = layout::width_bytes(w);
+    let mut marks: usize = 0;
+    let mut p = 0;
+    while p < pixels.len() {
+        let e = block_end(p, pixels.len());
+        let at = p * each;
+        marks += load_block(&image[at..], w, mark, &mut pixels[p..e]);
+        p = e;
+    }
+    marks
 }
 
 // A width written at the call makes the read of a pixel a single load.
