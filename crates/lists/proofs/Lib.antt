@@ -1,3 +1,6 @@
 pub mod Numbers
 pub mod Tests
 pub mod BigEndian
+pub mod Writing
+pub mod Below
+pub mod Parts

@@ -1,0 +1,14 @@
+-- Parts of lists.
+-- Assumes nothing.
+use mathlib.Core.Path.{_≡_, refl, sym}
+use mathlib.Core.List.{List, [], _∷_}
+use Prim.Native.Nat.{ℕ, zero, suc, _-_}
+use native.Mathlib.Omega.{arith}
+use lib.ListN.{take, drop}
+use lib.Seq.{take-nil}
+
+pub drop-take : (w m : ℕ) (t : List ℕ) → drop w (take m t) ≡ take (m - w) (drop w t)
+drop-take zero m t = let e : m - 0 ≡ m = omega arith in rw e
+drop-take (suc w) zero t = let e : 0 - suc w ≡ 0 = omega arith in rw e
+drop-take (suc w) (suc m) [] = sym (take-nil (suc m - suc w))
+drop-take (suc w) (suc m) (b ∷ t) = let e : suc m - suc w ≡ m - w = omega arith in rw e (drop-take w m t)

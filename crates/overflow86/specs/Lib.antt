@@ -1,0 +1,3 @@
+pub mod Entries
+pub mod Expand86
+pub mod Steps

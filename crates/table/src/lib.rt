@@ -1,0 +1,84 @@
+// Reading tables, once over the width of an entry.
+ghost use mathlib.Core.Path.{_≡_};
+ghost use Prim.Native.Nat.{_+_, _*_, _/_, _≤_};
+ghost use lib.ListN.{length, drop, getD};
+ghost use lib.Dec.{leb};
+ghost use Rattle.lists.specs.Choose.{if_then_else_};
+ghost use Rattle.lists.specs.Bytes.{little, zeros};
+ghost use Rattle.layout.specs.Form.{widthBytes};
+ghost use Rattle.table.specs.Table.{entries, wholeEntries, allZero};
+use layout::Width;
+
+// The number in the w bytes of t from `from` on, least significant first.
+fn read_le(t: &[u8], w: usize, from: usize) -> u32
+    requires { ⌜ (w ≤ 4) × (from + w ≤ length (now t)) ⌝ }
+    ensures { λ r. ⌜ r ≡ little w (drop from (now (t .entry))) ⌝ }
+{
+    let mut v: u32 = 0;
+    let mut i = 0;
+    let mut at = from + w;
+    while i < w {
+        at -= 1;
+        v = v * 256 + (t[at] as u32);
+        i += 1;
+    }
+    v
+}
+
+// Entry k of the table t, and 0 past its last whole entry. A width written at the call makes the read a single load.
+pub fn entry(t: &[u8], w: Width, k: usize) -> u32
+    ensures { λ r. ⌜ r ≡ getD (wholeEntries (widthBytes w) (now (t .entry))) k 0 ⌝ }
+{
+    let each = layout::width_bytes(w);
+    if k < t.len() / each {
+        let at = k * each;
+        read_le(t, each, at)
+    } else {
+        0
+    }
+}
+
+// As many entries as out has places, if t has them.
+pub fn load(t: &[u8], w: Width, out: &mut [u32]) -> bool
+    ensures { λ r. ⌜ r ≡ leb (length (now (out .entry)) * widthBytes w) (length (now (t .entry))) ⌝ }
+    ensures { λ _. ⌜ now (out .exit) ≡ if_then_else_ (leb (length (now (out .entry)) * widthBytes w) (length (now (t .entry)))) (entries (widthBytes w) (length (now (out .entry))) (now (t .entry))) (now (out .entry)) ⌝ }
+{
+    let each = layout::width_bytes(w);
+    if t.len() < out.len() * each {
+        return false;
+    }
+    let mut at = 0;
+    let mut i = 0;
+    while i < out.len() {
+        out[i] = read_le(t, each, at);
+        at += each;
+        i += 1;
+    }
+    true
+}
+
+// Every byte is 0. No early exit, so that the loop is made of vector instructions.
+pub fn all_zero(t: &[u8]) -> bool
+    ensures { λ r. ⌜ r ≡ allZero (now (t .entry)) ⌝ }
+{
+    let mut zero = true;
+    let mut i = 0;
+    while i < t.len() {
+        if t[i] != 0 {
+            zero = false;
+        }
+        i += 1;
+    }
+    zero
+}
+
+// Zeros in every place.
+pub fn clear(out: &mut [u32])
+    ensures { λ _. ⌜ now (out .exit) ≡ zeros (length (now (out .entry))) ⌝ }
+{
+    let mut i = 0;
+    while i < out.len() {
+        out[i] = 0;
+        i += 1;
+    }
+}
