@@ -4,12 +4,12 @@ use mathlib.Core.Path.{_≡_, refl, sym, ap, _∙_}
 use mathlib.Core.Bool.{Bool, true, false, _&&_, and-true, and-false}
 use mathlib.Core.List.{List, [], _∷_, _++_}
 use Prim.Native.Nat.{ℕ, zero, suc, _+_, _*_, _-_, _/_, _≤_, _<_}
-use native.Mathlib.Nat.{le-of-suc-le-suc, not-suc-le-zero, suc-mul, mul-le-mul-right, zero-mul, add-zero, zero-add, div-mul-le-self, mul-div-cancel}
+use native.Mathlib.Nat.{le-of-suc-le-suc, not-suc-le-zero, suc-mul, mul-le-mul-right, zero-mul, div-mul-le-self, mul-div-cancel}
 use native.Mathlib.Numerals.{add-one}
 use native.Mathlib.Omega.{arith}
-use lib.ListN.{length, take, drop, getD, set, List·getD-eq-default, length-set, length-drop}
+use lib.ListN.{length, take, drop, getD, set, List·getD-eq-default, length-drop}
 use lib.Dec.{eqb}
-use lib.Seq.{drop-cons, take-suc, drop-drop, getD-drop, getD-take, take-all, take-nil, length-take-le}
+use lib.Seq.{take-suc, drop-drop, take-all, take-nil, length-take-le}
 use borrow.Author.Tests.{eq-eqb, ne-eqb}
 use Rattle.lists.specs.Bytes.{little}
 use Rattle.lists.proofs.Writing.{Writing, writing-start, writing-more}
