@@ -3,3 +3,4 @@ pub mod Loops
 pub mod Whole
 pub mod Extents
 pub mod Parts
+pub mod Facts

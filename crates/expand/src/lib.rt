@@ -2,7 +2,7 @@
 ghost use mathlib.Core.Path.{_≡_};
 ghost use mathlib.Core.Bool.{true, false, _&&_, _||_};
 ghost use mathlib.Core.List.{[], map};
-ghost use Prim.Native.Nat.{_+_, _*_, _<_, _≤_};
+ghost use Prim.Native.Nat.{_+_, _*_, _^_, _<_, _≤_};
 ghost use lib.ListN.{length, drop};
 ghost use lib.Dec.{eqb, ltb};
 ghost use Rattle.lists.specs.Choose.{if_then_else_};
@@ -100,7 +100,7 @@ fn has_mark(s: &[u32], mark: u32) -> bool
 
 // Each `mark` takes the next entry of t, from entry `from` on. The answer: the next entry's place.
 fn fill_marked(pixels: &mut [u32], mark: u32, t: &[u8], w: Width, from: usize) -> usize
-    requires { ⌜ from + length (now pixels) < 18446744073709551616 ⌝ }
+    requires { ⌜ from + length (now pixels) < 2 ^ 64 ⌝ }
     ensures { λ r. ⌜ r ≡ from + count mark (now (pixels .entry)) ⌝ }
     ensures { λ _. ⌜ now (pixels .exit) ≡ replace mark (now (pixels .entry)) (drop from (wholeEntries (widthBytes w) (now (t .entry)))) ⌝ }
 {
@@ -118,7 +118,7 @@ fn fill_marked(pixels: &mut [u32], mark: u32, t: &[u8], w: Width, from: usize) -
 
 // The same, skipped where no mark stands.
 fn fill_some(pixels: &mut [u32], mark: u32, t: &[u8], w: Width, from: usize) -> usize
-    requires { ⌜ from + length (now pixels) < 18446744073709551616 ⌝ }
+    requires { ⌜ from + length (now pixels) < 2 ^ 64 ⌝ }
     ensures { λ r. ⌜ r ≡ from + count mark (now (pixels .entry)) ⌝ }
     ensures { λ _. ⌜ now (pixels .exit) ≡ replace mark (now (pixels .entry)) (drop from (wholeEntries (widthBytes w) (now (t .entry)))) ⌝ }
 {
@@ -131,7 +131,7 @@ fn fill_some(pixels: &mut [u32], mark: u32, t: &[u8], w: Width, from: usize) -> 
 
 // Steps a and b of a block of width 1. A block with no 255 has no 65535 either.
 fn block1(image: &[u8], two: &[u8], four: &[u8], pixels: &mut [u32], c: Cursors) -> Cursors
-    requires { ⌜ (length (now pixels) ≤ length (now image)) × (c .two + length (now pixels) < 18446744073709551616) × (c .four + length (now pixels) < 18446744073709551616) ⌝ }
+    requires { ⌜ (length (now pixels) ≤ length (now image)) × (c .two + length (now pixels) < 2 ^ 64) × (c .four + length (now pixels) < 2 ^ 64) ⌝ }
     ensures { λ r. ⌜ Block 1 (stored (entries 1 (length (now (pixels .entry))) (now (image .entry))) [] (wholeEntries 2 (now (two .entry))) (wholeEntries 4 (now (four .entry)))) (now (pixels .exit)) c r ⌝ }
 {
     let n = pixels.len();
@@ -147,7 +147,7 @@ fn block1(image: &[u8], two: &[u8], four: &[u8], pixels: &mut [u32], c: Cursors)
 
 // Steps a and b of a block. Each width is written at the calls, so that each loop is compiled for its width.
 fn block(image: &[u8], w: Width, two: &[u8], four: &[u8], pixels: &mut [u32], c: Cursors) -> Cursors
-    requires { ⌜ (length (now pixels) * widthBytes w ≤ length (now image)) × (c .two + length (now pixels) < 18446744073709551616) × (c .four + length (now pixels) < 18446744073709551616) ⌝ }
+    requires { ⌜ (length (now pixels) * widthBytes w ≤ length (now image)) × (c .two + length (now pixels) < 2 ^ 64) × (c .four + length (now pixels) < 2 ^ 64) ⌝ }
     ensures { λ r. ⌜ Block (widthBytes w) (stored (entries (widthBytes w) (length (now (pixels .entry))) (now (image .entry))) [] (wholeEntries 2 (now (two .entry))) (wholeEntries 4 (now (four .entry)))) (now (pixels .exit)) c r ⌝ }
 {
     match w {
@@ -220,7 +220,7 @@ fn one_if_zero(v: u32) -> usize
 
 // Step c: each 0 takes the next entry of t, every other number gains base. The body has no branch on the pixel.
 fn lift_marked(pixels: &mut [u32], t: &[u8], w: Width, base: u32, from: usize) -> usize
-    requires { ⌜ from + length (now pixels) < 18446744073709551616 ⌝ }
+    requires { ⌜ from + length (now pixels) < 2 ^ 64 ⌝ }
     ensures { λ r. ⌜ r ≡ from + count 0 (now (pixels .entry)) ⌝ }
     ensures { λ _. ⌜ now (pixels .exit) ≡ fillBy 0 (wrapped base) (now (pixels .entry)) (drop from (wholeEntries (widthBytes w) (now (t .entry)))) ⌝ }
 {
@@ -238,7 +238,7 @@ fn lift_marked(pixels: &mut [u32], t: &[u8], w: Width, base: u32, from: usize) -
 
 // Step c of a block. Sums that are too large are looked for in a pass of their own and stored wrapped.
 fn lift_block(pixels: &mut [u32], under: &[u8], c: StepC, u: Under) -> Under
-    requires { ⌜ u .next + length (now pixels) < 18446744073709551616 ⌝ }
+    requires { ⌜ u .next + length (now pixels) < 2 ^ 64 ⌝ }
     ensures { λ r. ⌜ Lifted (c .applies) (c .baseline) (now (pixels .entry)) (wholeEntries (entryBytes (c .width)) (now (under .entry))) (now (pixels .exit)) u r ⌝ }
 {
     if !c.applies {
@@ -283,7 +283,7 @@ fn three(
     pixels: &mut [u32],
     t: Taken,
 ) -> Taken
-    requires { ⌜ (length (now pixels) * widthBytes w ≤ length (now image)) × (t .two + length (now pixels) < 18446744073709551616) × (t .four + length (now pixels) < 18446744073709551616) × (t .under + length (now pixels) < 18446744073709551616) ⌝ }
+    requires { ⌜ (length (now pixels) * widthBytes w ≤ length (now image)) × (t .two + length (now pixels) < 2 ^ 64) × (t .four + length (now pixels) < 2 ^ 64) × (t .under + length (now pixels) < 2 ^ 64) ⌝ }
     ensures { λ r. ⌜ Three (widthBytes w) (c .applies) (c .baseline) (partsOf (widthBytes w) (entryBytes (c .width)) (length (now (pixels .entry))) (now (image .entry)) (now (under .entry)) (now (two .entry)) (now (four .entry))) (now (pixels .exit)) t r ⌝ }
 {
     let k = block(
@@ -417,9 +417,9 @@ fn step_of(u: Underflows) -> StepC
 
 // Where a table of `count` entries lies that starts at `start`.
 fn extent_of(start: usize, w: Width, count: u32) -> Extent
-    requires { ⌜ start + 34359738368 < 18446744073709551616 ⌝ }
+    requires { ⌜ start + 2 ^ 35 < 2 ^ 64 ⌝ }
     ensures { λ r. ⌜ r ≡ extentOf start (widthBytes w) count ⌝ }
-    ensures { λ r. ⌜ r .end ≤ start + 17179869200 ⌝ }
+    ensures { λ r. ⌜ r .end ≤ start + 2 ^ 35 ⌝ }
 {
     let each = layout::width_bytes(w);
     let n = count as usize;
@@ -434,7 +434,7 @@ fn extent_of(start: usize, w: Width, count: u32) -> Extent
 
 // Where the parts of a frame of n pixels lie.
 fn places_of(image: Image, tables: BinaryTables, n: usize) -> Places
-    requires { ⌜ (n ≡ pixelCount image) × (n * 4 < 9223372036854775808) ⌝ }
+    requires { ⌜ (n ≡ pixelCount image) × (n * 4 < 2 ^ 63) ⌝ }
     ensures { λ r. ⌜ r ≡ placesOf image tables ⌝ }
 {
     let u = tables.underflows;

@@ -76,7 +76,8 @@ little-take (suc w) zero t h = absurd (not-suc-le-zero h)
 little-take (suc w) (suc m) [] h = refl
 little-take (suc w) (suc m) (b ∷ t) h = rw (little-take w m t (le-of-suc-le-suc h))
 
-drop-take : (w m : ℕ) (t : List ℕ) → drop w (take m t) ≡ take (m - w) (drop w t)
+-- the part of a front
+pub drop-take : (w m : ℕ) (t : List ℕ) → drop w (take m t) ≡ take (m - w) (drop w t)
 drop-take zero m t = let e : m - 0 ≡ m = omega arith in rw e
 drop-take (suc w) zero t = let e : 0 - suc w ≡ 0 = omega arith in rw e
 drop-take (suc w) (suc m) [] = sym (take-nil (suc m - suc w))
