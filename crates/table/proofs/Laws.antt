@@ -4,12 +4,12 @@ use mathlib.Core.Path.{_≡_, refl, sym, ap, _∙_}
 use mathlib.Core.Bool.{Bool, true, false, _&&_, and-true, and-false}
 use mathlib.Core.List.{List, [], _∷_, _++_}
 use Prim.Native.Nat.{ℕ, zero, suc, _+_, _*_, _-_, _/_, _≤_, _<_}
-use native.Mathlib.Nat.{le-of-suc-le-suc, not-suc-le-zero, suc-mul, mul-le-mul-right, zero-mul, add-zero, zero-add, div-mul-le-self, mul-div-cancel}
+use native.Mathlib.Nat.{le-of-suc-le-suc, not-suc-le-zero, suc-mul, mul-le-mul-right, zero-mul, div-mul-le-self, mul-div-cancel}
 use native.Mathlib.Numerals.{add-one}
 use native.Mathlib.Omega.{arith}
-use lib.ListN.{length, take, drop, getD, set, List·getD-eq-default, length-set, length-drop}
+use lib.ListN.{length, take, drop, getD, set, List·getD-eq-default, length-drop}
 use lib.Dec.{eqb}
-use lib.Seq.{drop-cons, take-suc, drop-drop, getD-drop, getD-take, take-all, take-nil, length-take-le}
+use lib.Seq.{take-suc, drop-drop, take-all, take-nil, length-take-le}
 use borrow.Author.Tests.{eq-eqb, ne-eqb}
 use Rattle.lists.specs.Bytes.{little}
 use Rattle.lists.proofs.Writing.{Writing, writing-start, writing-more}
@@ -76,7 +76,8 @@ little-take (suc w) zero t h = absurd (not-suc-le-zero h)
 little-take (suc w) (suc m) [] h = refl
 little-take (suc w) (suc m) (b ∷ t) h = rw (little-take w m t (le-of-suc-le-suc h))
 
-drop-take : (w m : ℕ) (t : List ℕ) → drop w (take m t) ≡ take (m - w) (drop w t)
+-- the part of a front
+pub drop-take : (w m : ℕ) (t : List ℕ) → drop w (take m t) ≡ take (m - w) (drop w t)
 drop-take zero m t = let e : m - 0 ≡ m = omega arith in rw e
 drop-take (suc w) zero t = let e : 0 - suc w ≡ 0 = omega arith in rw e
 drop-take (suc w) (suc m) [] = sym (take-nil (suc m - suc w))

@@ -1,7 +1,7 @@
 use mathlib.Core.Path.{sym}
 use Prim.Native.Nat.{_-_}
 use native.Mathlib.Omega.{arith}
-use lib.ListN.{length, replicate, length-replicate, getD-replicate}
+use lib.ListN.{length, length-replicate, getD-replicate}
 use Rattle.lists.specs.Bytes.{zeros}
 use Rattle.lists.proofs.Writing.{Writing, writing-start, writing-more, writing-whole}
 use Rattle.table.proofs.clear.Statement.{statement}

@@ -1,0 +1,6 @@
+pub mod Steps
+pub mod Loops
+pub mod Whole
+pub mod Extents
+pub mod Parts
+pub mod Facts

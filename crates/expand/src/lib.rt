@@ -1,0 +1,538 @@
+// FORMAT 100: from the bytes of an image and its tables to pixels, in one pass over blocks of pixels.
+ghost use mathlib.Core.Path.{_≡_};
+ghost use mathlib.Core.Bool.{true, false, _&&_, _||_};
+ghost use mathlib.Core.List.{[], map};
+ghost use Prim.Native.Nat.{_+_, _*_, _^_, _<_, _≤_};
+ghost use lib.ListN.{length, drop};
+ghost use lib.Dec.{eqb, ltb};
+ghost use Rattle.lists.specs.Choose.{if_then_else_};
+ghost use Rattle.layout.specs.Form.{widthBytes, entryBytes};
+ghost use Rattle.layout.specs.Layout.{pixelCount, binaryEnd};
+ghost use Rattle.table.specs.Table.{wholeEntries, entries};
+ghost use Rattle.expand.specs.Steps.{fillBy, replace, count, sumTooLarge, anyTooLarge};
+ghost use Rattle.expand.specs.Expand.{binaryAnswer, binaryPixels, firstPixels};
+ghost use Rattle.expand.specs.Blocks.{stored, partsOf, wrapped, Block, Lifted, Three, Whole, stepOf, extentOf, placesOf, gapZero, stepsAnswer, stepsPixels, frameAnswer};
+use layout::BinaryTables;
+use layout::EntryWidth;
+use layout::Image;
+use layout::Underflows;
+use layout::Width;
+use refusal::Refusal;
+
+// Where an accepted frame ends, or why it is refused.
+pub enum Expanded {
+    Frame { end: u64 },
+    Refused(Refusal),
+}
+
+// The next entries of the two-byte and the four-byte table.
+struct Cursors {
+    two: usize,
+    four: usize,
+}
+
+// The next underflow entry, and whether a baseline sum was too large.
+struct Under {
+    next: usize,
+    over: bool,
+}
+
+// All that a block hands on to the next.
+struct Taken {
+    two: usize,
+    four: usize,
+    under: usize,
+    over: bool,
+}
+
+// Step c: whether it applies, its entries and the baseline.
+struct StepC {
+    applies: bool,
+    width: EntryWidth,
+    count: u32,
+    baseline: u32,
+}
+
+// Where a table lies; its entries end where its padding starts.
+struct Extent {
+    start: usize,
+    padding: usize,
+    end: usize,
+}
+
+// Where the image starts and the tables lie.
+struct Places {
+    image: usize,
+    under: Extent,
+    two: Extent,
+    four: Extent,
+}
+
+// Some byte is `mark`. No early exit, so that the loop is made of vector instructions.
+fn has_byte(s: &[u8], mark: u8) -> bool
+    ensures { λ r. ⌜ r ≡ ltb 0 (count mark (now (s .entry))) ⌝ }
+{
+    let mut found = false;
+    let mut i = 0;
+    while i < s.len() {
+        if s[i] == mark {
+            found = true;
+        }
+        i += 1;
+    }
+    found
+}
+
+// Some number is `mark`.
+fn has_mark(s: &[u32], mark: u32) -> bool
+    ensures { λ r. ⌜ r ≡ ltb 0 (count mark (now (s .entry))) ⌝ }
+{
+    let mut found = false;
+    let mut i = 0;
+    while i < s.len() {
+        if s[i] == mark {
+            found = true;
+        }
+        i += 1;
+    }
+    found
+}
+
+// Each `mark` takes the next entry of t, from entry `from` on. The answer: the next entry's place.
+fn fill_marked(pixels: &mut [u32], mark: u32, t: &[u8], w: Width, from: usize) -> usize
+    requires { ⌜ from + length (now pixels) < 2 ^ 64 ⌝ }
+    ensures { λ r. ⌜ r ≡ from + count mark (now (pixels .entry)) ⌝ }
+    ensures { λ _. ⌜ now (pixels .exit) ≡ replace mark (now (pixels .entry)) (drop from (wholeEntries (widthBytes w) (now (t .entry)))) ⌝ }
+{
+    let mut k = from;
+    let mut i = 0;
+    while i < pixels.len() {
+        if pixels[i] == mark {
+            pixels[i] = table::entry(t, w, k);
+            k += 1;
+        }
+        i += 1;
+    }
+    k
+}
+
+// The same, skipped where no mark stands.
+fn fill_some(pixels: &mut [u32], mark: u32, t: &[u8], w: Width, from: usize) -> usize
+    requires { ⌜ from + length (now pixels) < 2 ^ 64 ⌝ }
+    ensures { λ r. ⌜ r ≡ from + count mark (now (pixels .entry)) ⌝ }
+    ensures { λ _. ⌜ now (pixels .exit) ≡ replace mark (now (pixels .entry)) (drop from (wholeEntries (widthBytes w) (now (t .entry)))) ⌝ }
+{
+    if has_mark(pixels, mark) {
+        fill_marked(pixels, mark, t, w, from)
+    } else {
+        from
+    }
+}
+
+// Steps a and b of a block of width 1. A block with no 255 has no 65535 either.
+fn block1(image: &[u8], two: &[u8], four: &[u8], pixels: &mut [u32], c: Cursors) -> Cursors
+    requires { ⌜ (length (now pixels) ≤ length (now image)) × (c .two + length (now pixels) < 2 ^ 64) × (c .four + length (now pixels) < 2 ^ 64) ⌝ }
+    ensures { λ r. ⌜ Block 1 (stored (entries 1 (length (now (pixels .entry))) (now (image .entry))) [] (wholeEntries 2 (now (two .entry))) (wholeEntries 4 (now (four .entry)))) (now (pixels .exit)) c r ⌝ }
+{
+    let n = pixels.len();
+    table::load(image, Width::One, pixels);
+    if has_byte(&image[..n], 255) {
+        let two = fill_marked(pixels, 255, two, Width::Two, c.two);
+        let four = fill_some(pixels, 65535, four, Width::Four, c.four);
+        Cursors { two, four }
+    } else {
+        c
+    }
+}
+
+// Steps a and b of a block. Each width is written at the calls, so that each loop is compiled for its width.
+fn block(image: &[u8], w: Width, two: &[u8], four: &[u8], pixels: &mut [u32], c: Cursors) -> Cursors
+    requires { ⌜ (length (now pixels) * widthBytes w ≤ length (now image)) × (c .two + length (now pixels) < 2 ^ 64) × (c .four + length (now pixels) < 2 ^ 64) ⌝ }
+    ensures { λ r. ⌜ Block (widthBytes w) (stored (entries (widthBytes w) (length (now (pixels .entry))) (now (image .entry))) [] (wholeEntries 2 (now (two .entry))) (wholeEntries 4 (now (four .entry)))) (now (pixels .exit)) c r ⌝ }
+{
+    match w {
+        Width::One => block1(image, two, four, pixels, c),
+        Width::Two => {
+            table::load(image, Width::Two, pixels);
+            let four = fill_some(pixels, 65535, four, Width::Four, c.four);
+            Cursors { two: c.two, four }
+        }
+        Width::Four => {
+            table::load(image, Width::Four, pixels);
+            c
+        }
+    }
+}
+
+// Step c where no zero stands: every number gains base.
+fn lift(pixels: &mut [u32], base: u32)
+    ensures { λ _. ⌜ now (pixels .exit) ≡ map (wrapped base) (now (pixels .entry)) ⌝ }
+{
+    let mut i = 0;
+    while i < pixels.len() {
+        pixels[i] = std::num::wrapping_add_u32(pixels[i], base);
+        i += 1;
+    }
+}
+
+// over, or the sum of v and base is too large
+fn past(over: bool, v: u32, base: u32) -> bool
+    ensures { λ r. ⌜ r ≡ (over || sumTooLarge base v) ⌝ }
+{
+    if v <= 4294967295 - base { over } else { true }
+}
+
+// Some sum with base is too large.
+fn any_too_large(s: &[u32], base: u32) -> bool
+    ensures { λ r. ⌜ r ≡ anyTooLarge base (now (s .entry)) ⌝ }
+{
+    let mut over = false;
+    let mut i = 0;
+    while i < s.len() {
+        over = past(over, s[i], base);
+        i += 1;
+    }
+    over
+}
+
+fn either(a: bool, b: bool) -> bool
+    ensures { λ r. ⌜ r ≡ (a || b) ⌝ }
+{
+    if a { true } else { b }
+}
+
+// Step c at one pixel: e is its entry if it takes one.
+fn choose(v: u32, e: u32, base: u32) -> u32
+    ensures { λ r. ⌜ r ≡ if_then_else_ (eqb v 0) e (wrapped base v) ⌝ }
+{
+    if v == 0 {
+        e
+    } else {
+        std::num::wrapping_add_u32(v, base)
+    }
+}
+
+fn one_if_zero(v: u32) -> usize
+    ensures { λ r. ⌜ r ≡ if_then_else_ (eqb v 0) 1 0 ⌝ }
+{
+    if v == 0 { 1 } else { 0 }
+}
+
+// Step c: each 0 takes the next entry of t, every other number gains base. The body has no branch on the pixel.
+fn lift_marked(pixels: &mut [u32], t: &[u8], w: Width, base: u32, from: usize) -> usize
+    requires { ⌜ from + length (now pixels) < 2 ^ 64 ⌝ }
+    ensures { λ r. ⌜ r ≡ from + count 0 (now (pixels .entry)) ⌝ }
+    ensures { λ _. ⌜ now (pixels .exit) ≡ fillBy 0 (wrapped base) (now (pixels .entry)) (drop from (wholeEntries (widthBytes w) (now (t .entry)))) ⌝ }
+{
+    let mut k = from;
+    let mut i = 0;
+    while i < pixels.len() {
+        let v = pixels[i];
+        let e = table::entry(t, w, k);
+        pixels[i] = choose(v, e, base);
+        k += one_if_zero(v);
+        i += 1;
+    }
+    k
+}
+
+// Step c of a block. Sums that are too large are looked for in a pass of their own and stored wrapped.
+fn lift_block(pixels: &mut [u32], under: &[u8], c: StepC, u: Under) -> Under
+    requires { ⌜ u .next + length (now pixels) < 2 ^ 64 ⌝ }
+    ensures { λ r. ⌜ Lifted (c .applies) (c .baseline) (now (pixels .entry)) (wholeEntries (entryBytes (c .width)) (now (under .entry))) (now (pixels .exit)) u r ⌝ }
+{
+    if !c.applies {
+        return u;
+    }
+    let base = c.baseline;
+    let large = any_too_large(pixels, base);
+    let over = either(u.over, large);
+    if !has_mark(pixels, 0) {
+        lift(pixels, base);
+        return Under { next: u.next, over };
+    }
+    let width = c.width;
+    match width {
+        EntryWidth::One => {
+            let next = lift_marked(pixels, under, Width::One, base, u.next);
+            Under { next, over }
+        }
+        EntryWidth::Two => {
+            let next = lift_marked(pixels, under, Width::Two, base, u.next);
+            Under { next, over }
+        }
+    }
+}
+
+// The end of the block that starts at p: a block has 64 pixels.
+fn block_end(p: usize, n: usize) -> usize
+    requires { ⌜ p < n ⌝ }
+    ensures { λ r. ⌜ (p < r) × (r ≤ n) ⌝ }
+{
+    if 64 < n - p { p + 64 } else { n }
+}
+
+// The three steps of a block.
+fn three(
+    image: &[u8],
+    w: Width,
+    two: &[u8],
+    four: &[u8],
+    under: &[u8],
+    c: StepC,
+    pixels: &mut [u32],
+    t: Taken,
+) -> Taken
+    requires { ⌜ (length (now pixels) * widthBytes w ≤ length (now image)) × (t .two + length (now pixels) < 2 ^ 64) × (t .four + length (now pixels) < 2 ^ 64) × (t .under + length (now pixels) < 2 ^ 64) ⌝ }
+    ensures { λ r. ⌜ Three (widthBytes w) (c .applies) (c .baseline) (partsOf (widthBytes w) (entryBytes (c .width)) (length (now (pixels .entry))) (now (image .entry)) (now (under .entry)) (now (two .entry)) (now (four .entry))) (now (pixels .exit)) t r ⌝ }
+{
+    let k = block(
+        image,
+        w,
+        two,
+        four,
+        pixels,
+        Cursors {
+            two: t.two,
+            four: t.four,
+        },
+    );
+    let u = lift_block(
+        pixels,
+        under,
+        c,
+        Under {
+            next: t.under,
+            over: t.over,
+        },
+    );
+    Taken {
+        two: k.two,
+        four: k.four,
+        under: u.next,
+        over: u.over,
+    }
+}
+
+// The three steps of all blocks.
+fn blocks(
+    image: &[u8],
+    w: Width,
+    two: &[u8],
+    four: &[u8],
+    under: &[u8],
+    c: StepC,
+    pixels: &mut [u32],
+) -> Taken
+    requires { ⌜ length (now pixels) * widthBytes w ≤ length (now image) ⌝ }
+    ensures { λ r. ⌜ Whole (widthBytes w) (c .applies) (c .baseline) (partsOf (widthBytes w) (entryBytes (c .width)) (length (now (pixels .entry))) (now (image .entry)) (now (under .entry)) (now (two .entry)) (now (four .entry))) (now (pixels .exit)) r ⌝ }
+{
+    let each = layout::width_bytes(w);
+    let mut t = Taken {
+        two: 0,
+        four: 0,
+        under: 0,
+        over: false,
+    };
+    let mut p = 0;
+    while p < pixels.len() {
+        let e = block_end(p, pixels.len());
+        let at = p * each;
+        t = three(&image[at..], w, two, four, under, c, &mut pixels[p..e], t);
+        p = e;
+    }
+    t
+}
+
+// Each step took exactly the entries that there are.
+fn used_up(t: Taken, two: usize, four: usize, under: usize) -> bool
+    ensures { λ r. ⌜ r ≡ (eqb (t .two) two && eqb (t .four) four && eqb (t .under) under) ⌝ }
+{
+    if t.two != two {
+        return false;
+    }
+    if t.four != four {
+        return false;
+    }
+    t.under == under
+}
+
+// The steps on exactly the pixels of the image, and tables that hold only entries; zeros where refused.
+fn expand_parts(
+    image: &[u8],
+    w: Width,
+    two: &[u8],
+    four: &[u8],
+    under: &[u8],
+    c: StepC,
+    end: u64,
+    pixels: &mut [u32],
+) -> Expanded
+    requires { ⌜ length (now pixels) * widthBytes w ≤ length (now image) ⌝ }
+    ensures { λ r. ⌜ r ≡ stepsAnswer (widthBytes w) (c .applies) (c .baseline) end (partsOf (widthBytes w) (entryBytes (c .width)) (length (now (pixels .entry))) (now (image .entry)) (now (under .entry)) (now (two .entry)) (now (four .entry))) ⌝ }
+    ensures { λ _. ⌜ now (pixels .exit) ≡ stepsPixels (widthBytes w) (c .applies) (c .baseline) (length (now (pixels .entry))) (partsOf (widthBytes w) (entryBytes (c .width)) (length (now (pixels .entry))) (now (image .entry)) (now (under .entry)) (now (two .entry)) (now (four .entry))) ⌝ }
+{
+    let e = c.width;
+    let each = layout::entry_bytes(e);
+    let t = blocks(image, w, two, four, under, c, pixels);
+    if !used_up(t, two.len() / 2, four.len() / 4, under.len() / each) {
+        table::clear(pixels);
+        return Expanded::Refused(Refusal::CountMismatch);
+    }
+    if t.over {
+        table::clear(pixels);
+        return Expanded::Refused(Refusal::SumTooLarge);
+    }
+    Expanded::Frame { end }
+}
+
+fn step_of(u: Underflows) -> StepC
+    ensures { λ r. ⌜ r ≡ stepOf u ⌝ }
+{
+    match u {
+        Underflows::Unused => StepC {
+            applies: false,
+            width: EntryWidth::One,
+            count: 0,
+            baseline: 0,
+        },
+        Underflows::NoWidth { baseline } => StepC {
+            applies: true,
+            width: EntryWidth::One,
+            count: 0,
+            baseline,
+        },
+        Underflows::Counted {
+            entry,
+            count,
+            baseline,
+        } => StepC {
+            applies: true,
+            width: entry,
+            count,
+            baseline,
+        },
+    }
+}
+
+// Where a table of `count` entries lies that starts at `start`.
+fn extent_of(start: usize, w: Width, count: u32) -> Extent
+    requires { ⌜ start + 2 ^ 35 < 2 ^ 64 ⌝ }
+    ensures { λ r. ⌜ r ≡ extentOf start (widthBytes w) count ⌝ }
+    ensures { λ r. ⌜ r .end ≤ start + 2 ^ 35 ⌝ }
+{
+    let each = layout::width_bytes(w);
+    let n = count as usize;
+    let padding = start + n * each;
+    let end = start + layout::table_bytes(w, count);
+    Extent {
+        start,
+        padding,
+        end,
+    }
+}
+
+// Where the parts of a frame of n pixels lie.
+fn places_of(image: Image, tables: BinaryTables, n: usize) -> Places
+    requires { ⌜ (n ≡ pixelCount image) × (n * 4 < 2 ^ 63) ⌝ }
+    ensures { λ r. ⌜ r ≡ placesOf image tables ⌝ }
+{
+    let u = tables.underflows;
+    let c = step_of(u);
+    let start = image.start as usize;
+    let w = image.width;
+    let end = start + n * layout::width_bytes(w);
+    let e = c.width;
+    let under = extent_of(end, layout::entry_width(e), c.count);
+    let two = extent_of(under.end, Width::Two, tables.two);
+    let four = extent_of(two.end, Width::Four, tables.four);
+    Places {
+        image: start,
+        under,
+        two,
+        four,
+    }
+}
+
+// The padding of a table is zero.
+fn padding_zero(bytes: &[u8], x: Extent) -> bool
+    requires { ⌜ (x .padding ≤ x .end) × (x .end ≤ length (now bytes)) ⌝ }
+    ensures { λ r. ⌜ r ≡ gapZero x (now (bytes .entry)) ⌝ }
+{
+    let from = x.padding;
+    let end = x.end;
+    table::all_zero(&bytes[from..end])
+}
+
+// The padding of each table is zero.
+fn paddings_zero(bytes: &[u8], under: Extent, two: Extent, four: Extent) -> bool
+    requires { ⌜ (under .padding ≤ under .end) × (under .end ≤ length (now bytes)) × (two .padding ≤ two .end) × (two .end ≤ length (now bytes)) × (four .padding ≤ four .end) × (four .end ≤ length (now bytes)) ⌝ }
+    ensures { λ r. ⌜ r ≡ (gapZero under (now (bytes .entry)) && gapZero two (now (bytes .entry)) && gapZero four (now (bytes .entry))) ⌝ }
+{
+    if !padding_zero(bytes, under) {
+        return false;
+    }
+    if !padding_zero(bytes, two) {
+        return false;
+    }
+    padding_zero(bytes, four)
+}
+
+// 12, and then the steps, on exactly the pixels of the image.
+fn expand_frame(
+    bytes: &[u8],
+    image: Image,
+    tables: BinaryTables,
+    p: Places,
+    pixels: &mut [u32],
+) -> Expanded
+    requires { ⌜ (p ≡ placesOf image tables) × (binaryEnd image tables ≤ length (now bytes)) × (length (now pixels) ≡ pixelCount image) ⌝ }
+    ensures { λ r. ⌜ r ≡ frameAnswer (now (bytes .entry)) image tables ⌝ }
+    ensures { λ _. ⌜ now (pixels .exit) ≡ firstPixels (now (bytes .entry)) image tables ⌝ }
+{
+    let under = p.under;
+    let two = p.two;
+    let four = p.four;
+    if !paddings_zero(bytes, under, two, four) {
+        table::clear(pixels);
+        return Expanded::Refused(Refusal::PaddingNotZero);
+    }
+    let u = tables.underflows;
+    let c = step_of(u);
+    let start = p.image;
+    let us = under.start;
+    let ue = under.padding;
+    let ts = two.start;
+    let te = two.padding;
+    let fs = four.start;
+    let fe = four.padding;
+    let end = four.end;
+    let w = image.width;
+    expand_parts(
+        &bytes[start..us],
+        w,
+        &bytes[ts..te],
+        &bytes[fs..fe],
+        &bytes[us..ue],
+        c,
+        end as u64,
+        pixels,
+    )
+}
+
+// Expands a frame of FORMAT 100 into the start of pixels.
+pub fn expand(bytes: &[u8], image: Image, tables: BinaryTables, pixels: &mut [u32]) -> Expanded
+    ensures { λ r. ⌜ r ≡ binaryAnswer (now (bytes .entry)) image tables (length (now (pixels .entry))) ⌝ }
+    ensures { λ _. ⌜ now (pixels .exit) ≡ binaryPixels (now (bytes .entry)) image tables (now (pixels .entry)) ⌝ }
+{
+    let n = layout::pixel_count(image);
+    if pixels.len() < n {
+        return Expanded::Refused(Refusal::PixelArrayShort);
+    }
+    let p = places_of(image, tables, n);
+    let four = p.four;
+    if bytes.len() < four.end {
+        return Expanded::Refused(Refusal::DataTruncated);
+    }
+    expand_frame(bytes, image, tables, p, &mut pixels[..n])
+}
