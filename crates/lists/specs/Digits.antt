@@ -1,8 +1,9 @@
 -- Decimal digits and the number that they make.
-use Prim.Native.Nat.{ℕ, _+_, _-_, _*_}
-use mathlib.Core.List.{List, [], _∷_}
+use Prim.Native.Nat.{ℕ, zero, suc, _+_, _-_, _*_, _/_, _%_}
+use mathlib.Core.List.{List, [], _∷_, _++_}
 use mathlib.Core.Bool.{Bool, true, _&&_}
-use lib.Dec.{leb}
+use lib.Dec.{leb, ltb}
+use Rattle.lists.specs.Choose.{if_then_else_}
 
 abbrev pub isDigit : ℕ → Bool
 isDigit b = leb 48 b && leb b 57
@@ -15,3 +16,12 @@ allDigits (b ∷ bs) = isDigit b && allDigits bs
 abbrev pub valueFrom : ℕ → List ℕ → ℕ
 valueFrom v [] = v
 valueFrom v (b ∷ bs) = valueFrom (v * 10 + (b - 48)) bs
+
+-- the last k digits of n, with no zeros at the left
+unfoldable pub digitsUpTo : ℕ → ℕ → List ℕ
+digitsUpTo zero n = []
+digitsUpTo (suc k) n = (if ltb n 10 then [] else digitsUpTo k (n / 10)) ++ ((48 + n % 10) ∷ [])
+
+-- a number of 32 bits has at most ten digits
+abbrev pub decimal : ℕ → List ℕ
+decimal n = digitsUpTo 10 n

@@ -1,0 +1,77 @@
+-- Document 01, "Writing and holding": the bytes of the writer's frame.
+use Prim.Native.Nat.{ℕ, _+_, _-_, _*_}
+use mathlib.Core.List.{List, [], _∷_, _++_}
+use lib.ListN.{length, take, drop, replicate}
+use Rattle.lists.specs.Text.{codes}
+use Rattle.lists.specs.Bytes.{zeros}
+use Rattle.lists.specs.Digits.{digitsUpTo, decimal}
+use Rattle.layout.specs.declared.Underflow.{Underflow}
+use Rattle.layout.specs.declared.Underflow.the-variants as U
+use Rattle.layout.specs.declared.Form.{Form}
+use Rattle.layout.specs.Form.{widthBytes, entryBytes}
+use Rattle.layout.specs.Layout.{tableBytes}
+use Rattle.table.specs.Writing.{tableOf, paddedTable}
+use Rattle.expand.specs.Steps.{Stored}
+use Rattle.header_lines.specs.declared.LineId.{LineId}
+use Rattle.header_lines.specs.declared.LineId.the-variants as I
+use Rattle.header_lines.specs.Lines.{positionOf}
+
+-- so many spaces
+abbrev pub spaces : ℕ → List ℕ
+spaces n = replicate n 32
+
+-- a text at the left of a cell of 24 characters, the rest spaces
+unfoldable pub cell : List ℕ → List ℕ
+cell text = text ++ spaces (24 - length text)
+
+-- kind none writes -1 and an underflow width of 0
+abbrev pub underflowText : Underflow → ℕ → List ℕ
+underflowText U.None n = codes "-1"
+underflowText (U.Subtracted e) n = decimal n
+
+abbrev pub underflowBytes : Underflow → ℕ
+underflowBytes U.None = 0
+underflowBytes (U.Subtracted e) = entryBytes e
+
+-- the data of NOVERFL: three cells
+unfoldable pub noverflData : Form → Stored → List ℕ
+unfolding cell digitsUpTo
+noverflData form s =
+    cell (underflowText (form .underflow) (length (s .under))) ++ (cell (decimal (length (s .two))) ++ cell (decimal (length (s .four))))
+
+-- the data of NPIXELB: two cells, and spaces in the third
+unfoldable pub npixelbData : Form → List ℕ
+unfolding cell digitsUpTo
+npixelbData form = cell (decimal (widthBytes (form .width))) ++ (cell (decimal (underflowBytes (form .underflow))) ++ spaces 24)
+
+-- the header with other data in one line
+unfoldable pub withData : LineId → List ℕ → List ℕ → List ℕ
+withData id text header = take (positionOf id * 80 + 8) header ++ (text ++ drop (positionOf id * 80 + 80) header)
+
+-- the header is copied but for two lines
+unfoldable pub rewritten : Form → Stored → List ℕ → List ℕ
+unfolding withData noverflData npixelbData
+rewritten form s header = withData I.Npixelb (npixelbData form) (withData I.Noverfl (noverflData form s) header)
+
+-- the image, and the three tables with their padding
+unfoldable pub bodyBytes : Form → Stored → List ℕ
+unfolding tableOf paddedTable
+bodyBytes form s =
+    tableOf (widthBytes (form .width)) (s .image)
+    ++ (paddedTable (underflowBytes (form .underflow)) (s .under) ++ (paddedTable 2 (s .two) ++ paddedTable 4 (s .four)))
+
+-- the frame: the rewritten header and the body
+unfoldable pub frameBytes : List ℕ → Form → Stored → List ℕ
+unfolding rewritten bodyBytes
+frameBytes header form s = rewritten form s header ++ bodyBytes form s
+
+-- the length of that frame, for a header of so many bytes
+unfoldable pub frameLength : ℕ → Form → Stored → ℕ
+unfolding tableBytes
+frameLength header form s =
+    header + length (s .image) * widthBytes (form .width)
+    + tableBytes (underflowBytes (form .underflow)) (length (s .under)) + tableBytes 2 (length (s .two)) + tableBytes 4 (length (s .four))
+
+-- a frame in a buffer of n bytes: the bytes past its end are 0
+unfoldable pub heldBytes : ℕ → List ℕ → List ℕ
+heldBytes n frame = frame ++ zeros (n - length frame)
