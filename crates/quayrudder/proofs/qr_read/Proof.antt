@@ -1,0 +1,20 @@
+use Rattle.quayrudder.specs.Answers.{readResult}
+use mathlib.Core.Path.{ap, _∙_}
+use borrow.Author.Needs.{needs}
+use Rattle.quayrudder.proofs.qr_read.Statement.{statement}
+use Rattle.quayrudder.proofs.qr_read.Tie as tie
+
+read-requires : tie.Need-read-requires
+read-requires c κs = search needs
+
+read-result-requires : tie.Need-read-result-requires
+read-result-requires c κs = search needs
+
+same-length : tie.Need-same-length
+same-length c = search needs
+
+returns : tie.Need-returns
+returns c = (c .read-result .ensures ∙ ap readResult (c .before .before .before .read .ensures .0), c .before .before .before .read .ensures .1)
+
+pub qr-read-spec : {M : Type 1} → statement M
+qr-read-spec = tie.close (tie.spec read-requires read-result-requires same-length returns)

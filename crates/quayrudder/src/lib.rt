@@ -1,0 +1,117 @@
+// The C interface: the library's functions under fixed names, with answers as plain numbers.
+use calendar::Date;
+use ledger::LedgerAnswer;
+use ledger::PurgeAnswer;
+use reader::ReadAnswer;
+use refusal::Refusal;
+ghost use mathlib.Core.Path.{_≡_};
+ghost use lib.ListN.{length};
+ghost use Rattle.reader.specs.Reader.{readAnswer, readPixels};
+ghost use Rattle.ledger.specs.Ledger.{keepAnswer, keepBytes, purgeAnswer};
+ghost use Rattle.quayrudder.specs.Answers.{readRefused, readResult, ledgerResult, purgeResult, date};
+
+// refusal is 0 where the call is accepted. Every field that a case does not name is 0.
+#[repr(C)]
+pub struct ReadResult {
+    pub refusal: u32,
+    pub place: u32,
+    pub column: u32,
+    pub rows: u32,
+    pub columns: u32,
+    pub end: u64,
+}
+
+#[repr(C)]
+pub struct LedgerResult {
+    pub refusal: u32,
+    pub lines: u64,
+}
+
+fn read_refused(r: Refusal) -> ReadResult
+    ensures { λ a. ⌜ a ≡ readRefused r ⌝ }
+{
+    let code = refusal::code_of(r);
+    ReadResult {
+        refusal: code.number,
+        place: code.place,
+        column: 0,
+        rows: 0,
+        columns: 0,
+        end: 0,
+    }
+}
+
+fn read_result(answer: ReadAnswer) -> ReadResult
+    ensures { λ r. ⌜ r ≡ readResult answer ⌝ }
+{
+    match answer {
+        ReadAnswer::Frame { rows, columns, end } => ReadResult {
+            refusal: 0,
+            place: 0,
+            column: 0,
+            rows,
+            columns,
+            end,
+        },
+        ReadAnswer::Refused(r) => read_refused(r),
+    }
+}
+
+// Reads a frame of FORMAT 100 or 86.
+#[no_mangle]
+pub extern "C" fn qr_read(frame: &[u8], pixels: &mut [u32]) -> ReadResult
+    ensures { λ r. ⌜ r ≡ readResult (readAnswer (now (frame .entry)) (length (now (pixels .entry)))) ⌝ }
+    ensures { λ _. ⌜ now (pixels .exit) ≡ readPixels (now (frame .entry)) (now (pixels .entry)) ⌝ }
+{
+    read_result(reader::read(frame, pixels))
+}
+
+fn ledger_result(lines: u64, answer: LedgerAnswer) -> LedgerResult
+    ensures { λ r. ⌜ r ≡ ledgerResult lines answer ⌝ }
+{
+    match answer {
+        LedgerAnswer::Accepted { lines: next } => LedgerResult {
+            refusal: 0,
+            lines: next,
+        },
+        LedgerAnswer::Refused(r) => LedgerResult {
+            refusal: refusal::number_of(r),
+            lines,
+        },
+    }
+}
+
+// Appends a keep line.
+#[no_mangle]
+pub extern "C" fn qr_keep(
+    ledger: &mut [u8],
+    lines: u64,
+    year: u32,
+    month: u32,
+    day: u32,
+) -> LedgerResult
+    ensures { λ r. ⌜ r ≡ ledgerResult lines (keepAnswer (now (ledger .entry)) lines (date year month day)) ⌝ }
+    ensures { λ _. ⌜ now (ledger .exit) ≡ keepBytes (now (ledger .entry)) lines (date year month day) ⌝ }
+{
+    ledger_result(
+        lines,
+        ledger::keep(ledger, lines, Date { year, month, day }),
+    )
+}
+
+fn purge_result(answer: PurgeAnswer) -> u32
+    ensures { λ r. ⌜ r ≡ purgeResult answer ⌝ }
+{
+    match answer {
+        PurgeAnswer::Allowed => 0,
+        PurgeAnswer::Refused(r) => refusal::number_of(r),
+    }
+}
+
+// May the frame be purged on this day: 0, or the refusal.
+#[no_mangle]
+pub extern "C" fn qr_may_purge(ledger: &[u8], lines: u64, year: u32, month: u32, day: u32) -> u32
+    ensures { λ r. ⌜ r ≡ purgeResult (purgeAnswer (now (ledger .entry)) lines (date year month day)) ⌝ }
+{
+    purge_result(ledger::may_purge(ledger, lines, Date { year, month, day }))
+}
