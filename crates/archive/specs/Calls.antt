@@ -1,0 +1,98 @@
+-- Document 01, "The ledger" and "Numbers given back": correction and withdrawal, over the held buffer and the ledger.
+use Prim.Native.Nat.{ℕ, _+_}
+use mathlib.Core.Bool.{Bool, true, false, not}
+use mathlib.Core.List.{List}
+use lib.ListN.{length, getD, set}
+use lib.Dec.{eqb, leb, ltb}
+use Rattle.lists.specs.Choose.{if_then_else_}
+use Rattle.refusal.specs.declared.Refusal.{Refusal}
+use Rattle.refusal.specs.declared.Refusal.the-variants as R
+use Rattle.calendar.specs.declared.Date.{Date}
+use Rattle.ledger.specs.declared.Kind.{Kind}
+use Rattle.ledger.specs.declared.Kind.the-variants.{Correction, Keep, Withdrawal}
+use Rattle.ledger.specs.declared.Line.{Line}
+use Rattle.ledger.specs.declared.Found.{Found}
+use Rattle.ledger.specs.declared.Found.the-variants.{At, Nothing}
+use Rattle.ledger.specs.declared.LedgerAnswer.{LedgerAnswer}
+use Rattle.ledger.specs.declared.LedgerAnswer.the-variants as L
+use Rattle.ledger.specs.Lines.{linesOf}
+use Rattle.ledger.specs.Standing.{lastStanding, anyLine}
+use Rattle.ledger.specs.Ledger.{ledgerMalformed, ledgerFull, withLine}
+use Rattle.writer.specs.Frame.{heldBytes}
+use Rattle.writer.specs.Writer.{Made, frame, refused, writerFrame}
+use Rattle.archive.specs.Held.{heldCount, heldForm, heldPixels, isHeld}
+
+-- what a call answers, with the held buffer and the ledger after it
+pub record Outcome : Type 0 where
+  pub answer : LedgerAnswer
+  pub held : List ℕ
+  pub ledger : List ℕ
+
+abbrev pub outcome : LedgerAnswer → List ℕ → List ℕ → Outcome
+outcome a h l = record { answer = a; held = h; ledger = l }
+
+abbrev pub noDate : Date
+noDate = record { year = 0; month = 0; day = 0 }
+
+-- the lines that a correction and a withdrawal append
+abbrev pub correctionLine : ℕ → ℕ → ℕ → Line
+correctionLine pixel old new = record { kind = Correction; date = noDate; pixel = pixel; old = old; new = new }
+
+abbrev pub withdrawalLine : Line
+withdrawalLine = record { kind = Withdrawal; date = noDate; pixel = 0; old = 0; new = 0 }
+
+module _ (held ledger : List ℕ) (lines : ℕ) where
+  -- a refusal changes no byte
+  abbrev pub refuse : Refusal → Outcome
+  refuse r = outcome (L.Refused r) held ledger
+
+  -- the held buffer becomes a frame, and a line is appended: 17, 18
+  abbrev pub heldAs : Line → Made → Outcome
+  heldAs line (frame f) =
+      if ltb (length held) (length f) then refuse R.OutputShort else
+      outcome (L.Accepted (lines + 1)) (heldBytes (length held) f) (withLine ledger lines line)
+  heldAs line (refused r) = refuse r
+
+  -- the frame held, with another count in one pixel
+  abbrev pub changed : ℕ → ℕ → Made
+  changed pixel count = writerFrame held (heldForm held) (set (heldPixels held) pixel count)
+
+  -- correction: 19, 20, 24, 21, 17, 18
+  unfoldable pub correctOutcome : ℕ → ℕ → Outcome
+  correctOutcome pixel count =
+      if not (isHeld held) then refuse R.HeldNotCanonical else
+      if ledgerMalformed ledger lines then refuse R.LedgerMalformed else
+      if leb (heldCount held) pixel then refuse R.NoSuchPixel else
+      if ledgerFull ledger lines then refuse R.LedgerFull else
+      heldAs (correctionLine pixel (getD (heldPixels held) pixel 0) count) (changed pixel count)
+
+  -- a correction is taken back: 24, 23, 21, 17, 18
+  abbrev pub correctionBack : Line → Outcome
+  correctionBack l =
+      if leb (heldCount held) (l .pixel) then refuse R.NoSuchPixel else
+      if not (eqb (getD (heldPixels held) (l .pixel) 0) (l .new)) then refuse R.PixelDiffers else
+      if ledgerFull ledger lines then refuse R.LedgerFull else
+      heldAs withdrawalLine (changed (l .pixel) (l .old))
+
+  -- a keep line is taken back: the held buffer stays
+  abbrev pub keepBack : Outcome
+  keepBack =
+      if ledgerFull ledger lines then refuse R.LedgerFull else
+      outcome (L.Accepted (lines + 1)) held (withLine ledger lines withdrawalLine)
+
+  abbrev pub lineBack : Kind → Line → Outcome
+  lineBack Correction l = correctionBack l
+  lineBack Keep l = keepBack
+  lineBack Withdrawal l = refuse R.NothingStands
+
+  -- 22: nothing stands
+  abbrev pub lastBack : Found → Outcome
+  lastBack Nothing = refuse R.NothingStands
+  lastBack (At index l) = lineBack (l .kind) l
+
+  -- withdrawal: 19, 20, then by the last standing line
+  unfoldable pub withdrawOutcome : Outcome
+  withdrawOutcome =
+      if not (isHeld held) then refuse R.HeldNotCanonical else
+      if ledgerMalformed ledger lines then refuse R.LedgerMalformed else
+      lastBack (lastStanding anyLine 0 (linesOf lines ledger))
