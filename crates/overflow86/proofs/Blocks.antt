@@ -3,19 +3,18 @@
 use mathlib.Core.Path.{_≡_, refl, sym, ap, _∙_}
 use mathlib.Core.Bool.{Bool, true, false}
 use mathlib.Core.List.{List, [], _∷_, _++_, map, map-append, append-nil, append-assoc}
-use Prim.Native.Nat.{ℕ, zero, suc, _+_, _-_, _*_, _≤_, _<_}
+use Prim.Native.Nat.{ℕ, suc, _+_, _-_, _*_, _≤_, _<_}
 use native.Mathlib.Nat.{add-mul, mul-le-mul-right, add-zero}
 use native.Mathlib.Numerals.{add-one}
 use native.Mathlib.Omega.{arith}
 use borrow.Rule.Slice.PartMut.{putMid}
-use lib.ListN.{length, getD, take, drop, length-take, length-drop, length-append, length-map, drop-of-length-le}
+use lib.ListN.{length, getD, take, drop, length-drop, length-append, length-map, drop-of-length-le}
 use lib.Seq.{take-suc, take-add, take-all, take-at, drop-at, drop-drop, length-take-le}
-use lib.Dec.{eqb, leb, ltb}
-use borrow.Author.Tests.{eq-eqb, ne-eqb, le-leb, lt-ltb, ltb-false}
-use Rattle.lists.specs.Choose.{if_then_else_}
+use lib.Dec.{eqb, ltb}
+use borrow.Author.Tests.{eq-eqb, ne-eqb, lt-ltb, ltb-false}
 use Rattle.table.specs.Table.{entries}
 use Rattle.table.proofs.Laws.{length-entries, entries-part}
-use Rattle.overflow86.specs.Steps.{countOf, waitingIf, oneIf}
+use Rattle.overflow86.specs.Steps.{countOf, waitingIf}
 use Rattle.overflow86.proofs.Loops.{count-cons, one-le}
 
 pub count-append : (m : ℕ) (a b : List ℕ) → countOf m (a ++ b) ≡ countOf m a + countOf m b

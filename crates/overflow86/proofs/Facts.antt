@@ -2,34 +2,34 @@
 -- Assumes nothing.
 use mathlib.Core.Path.{_≡_, refl, sym, ap, _∙_}
 use mathlib.Core.Bool.{Bool, true, false, not, _&&_, _||_}
-use mathlib.Core.List.{List, [], _∷_, _++_}
+use mathlib.Core.List.{List, [], _∷_, _++_, map}
 use Prim.Native.Nat.{ℕ, zero, suc, _+_, _-_, _*_, _≤_, _<_, suc-le-suc}
 use native.Mathlib.Nat.{add-zero, zero-add, le-of-suc-le-suc, not-suc-le-zero}
 use native.Mathlib.Omega.{arith}
-use lib.ListN.{length, getD, take, drop}
-use lib.Seq.{append-snoc, take-take}
+use lib.ListN.{length, getD, take, drop, List·getD-append}
+use lib.Seq.{take-take}
 use lib.Dec.{eqb, ltb}
-use borrow.Author.Tests.{eqb-true, eq-eqb, ne-eqb, lt-ltb, le-ltb, ltb-true, ltb-false, not-true}
+use borrow.Author.Tests.{eqb-true, eq-eqb, lt-ltb, le-ltb, ltb-true, ltb-false, not-true}
 use Rattle.lists.specs.Choose.{if_then_else_}
+use Rattle.lists.proofs.Tests.{and-true-left, and-true-right}
+use Rattle.lists.specs.Text.{codes}
 use Rattle.lists.proofs.Parts.{drop-take}
-use Rattle.refusal.specs.declared.Refusal.{Refusal}
 use Rattle.refusal.specs.declared.Refusal.the-variants as R
 use Rattle.layout.specs.declared.Width.{Width}
 use Rattle.layout.specs.declared.Image.{Image}
 use Rattle.layout.specs.Form.{widthBytes}
-use Rattle.layout.specs.Layout.{pixelCount, imageEnd, textTableBytes, textEnd}
+use Rattle.layout.specs.Layout.{pixelCount, imageEnd, textEnd}
 use Rattle.table.specs.Table.{entries}
-use Rattle.table.proofs.Laws.{entries-take as stored-take}
+use Rattle.table.proofs.Laws.{length-entries, entries-take as stored-take}
 use Rattle.overflow86.specs.declared.Entry.{Entry}
 use Rattle.overflow86.specs.declared.Entry.the-variants as E
 use Rattle.overflow86.specs.declared.Checked.{Checked}
 use Rattle.overflow86.specs.declared.Checked.the-variants as C
-use Rattle.overflow86.specs.declared.Expanded86.{Expanded86}
 use Rattle.overflow86.specs.declared.Expanded86.the-variants as X
-use Rattle.overflow86.specs.Entries.{textEntries}
-use Rattle.overflow86.specs.Expand86.{isMarked, markedAt, isFor, hasEntry, isGood, firstBad, wanting, thenWanting, checkedOf, framePixels, storedImage, tableEntries, answerBy, textAnswer, textPixels}
-use Rattle.overflow86.proofs.Texts.{and-left, and-right, entries-take}
-use Rattle.overflow86.proofs.Frame.{table-room}
+use Rattle.overflow86.specs.Entries.{entryOf, textEntries}
+use Rattle.overflow86.specs.Expand86.{isMarked, markedAt, isFor, hasEntry, isGood, firstBad, wanting, thenWanting, checkedOf, intensityAt, withEntries, framePixels, storedImage, tableEntries, answerBy, textAnswer, textPixels}
+use Rattle.overflow86.proofs.Texts.{entries-take}
+use Rattle.overflow86.proofs.Laws.{with-length, with-at}
 
 -- how many entries are for pixel number p
 unfoldable pub entriesFor : ℕ → List Entry → ℕ
@@ -138,8 +138,8 @@ module _ (w : Width) (vs : List ℕ) where
   unfolding isGood allRead Adds
   once-more earlier E.Malformed es g f = never (sym g)
   once-more earlier (E.Read v q) es g f =
-      let m : markedAt w vs q ≡ true = and-left (markedAt w vs q) (not (hasEntry q earlier)) g in
-      let z : entriesFor q earlier ≡ 0 = has-none q earlier (not-true _ (and-right (markedAt w vs q) (not (hasEntry q earlier)) g)) in
+      let m : markedAt w vs q ≡ true = and-true-left (markedAt w vs q) (not (hasEntry q earlier)) g in
+      let z : entriesFor q earlier ≡ 0 = has-none q earlier (not-true _ (and-true-right (markedAt w vs q) (not (hasEntry q earlier)) g)) in
       let a = adds earlier v q es m z f in
       record { formed = f .formed; most = λ p. a p .0; later = λ p. a p .1; unmarked = λ p. a p .2 }
 
@@ -213,11 +213,11 @@ module _ (w : Width) (vs : List ℕ) where
   unfolding firstBad allRead
   none-bad [] earlier k r u m = refl
   none-bad (e ∷ es) earlier k r u m =
-      let g : isGood w vs earlier e ≡ true = good-of earlier e es (and-left (isRead e) (allRead es) r) u m in
+      let g : isGood w vs earlier e ≡ true = good-of earlier e es (and-true-left (isRead e) (allRead es) r) u m in
       let s : (p : ℕ) → entriesFor p (e ∷ es) ≡ entriesFor p (e ∷ []) + entriesFor p es = λ p. for-append p (e ∷ []) es in
       let t : (p : ℕ) → entriesFor p (earlier ++ (e ∷ [])) ≡ entriesFor p earlier + entriesFor p (e ∷ []) = λ p. for-append p earlier (e ∷ []) in
       rw g
-      (none-bad es (earlier ++ (e ∷ [])) (suc k) (and-right (isRead e) (allRead es) r) (λ p h. omega (arith, s p, u p h)) (λ p. omega (arith, s p, t p, m p)))
+      (none-bad es (earlier ++ (e ∷ [])) (suc k) (and-true-right (isRead e) (allRead es) r) (λ p h. omega (arith, s p, u p h)) (λ p. omega (arith, s p, t p, m p)))
 
 then-good : (c : Checked) (t : Bool) → thenWanting c t ≡ C.Good → (c ≡ C.Good) × (t ≡ false)
 then-good C.Good true h = absurd (let y : _≡_ {A = ℕ} 0 1 = cc in omega arith)
@@ -234,8 +234,8 @@ module _ (w : Width) (vs : List ℕ) (es : List Entry) where
       record {
         formed = o .formed;
         one = λ p m.
-            let i : p < length vs = ltb-true p (length vs) (and-left (ltb p (length vs)) (isMarked w (getD vs p 0)) m) in
-            let b : hasEntry (0 + p) es ≡ true = none-wanting w vs es 0 vs (g .1) p i (and-right (ltb p (length vs)) (isMarked w (getD vs p 0)) m) in
+            let i : p < length vs = ltb-true p (length vs) (and-true-left (ltb p (length vs)) (isMarked w (getD vs p 0)) m) in
+            let b : hasEntry (0 + p) es ≡ true = none-wanting w vs es 0 vs (g .1) p i (and-true-right (ltb p (length vs)) (isMarked w (getD vs p 0)) m) in
             omega (arith, o .most p, has-some p es (rw (zero-add p) at b));
         none = o .unmarked;
       }
@@ -313,3 +313,43 @@ module _ (b b′ : List ℕ) (i : Image) (n : ℕ) (same : take (imageEnd i + n 
         accepted-if b′ i n (length px) e (record { room = a .room; whole = l; matched = rw (← stored-same, ← entries-same) (a .matched); end = a .end }),
         rw (le-ltb (length px) (pixelCount i) (a .room), le-ltb (length b) (textEnd i n) (a .whole), le-ltb (length b′) (textEnd i n) l, stored-same, entries-same),
       )
+
+-- a pixel of an accepted frame: the intensity of its entry if it is marked, and otherwise as it was stored
+pub accepted-pixel : (bytes : List ℕ) (i : Image) (n e : ℕ) (px : List ℕ) → textAnswer bytes i n (length px) ≡ X.Frame e → (p : ℕ) → p < pixelCount i
+    → getD (textPixels bytes i n px) p 0
+    ≡ if_then_else_ (isMarked (i .width) (getD (storedImage bytes i) p 0)) (intensityAt 0 p (tableEntries bytes i n)) (getD (storedImage bytes i) p 0)
+unfolding textPixels framePixels
+accepted-pixel bytes i n e px h p k =
+    let w = i .width in
+    let vs = storedImage bytes i in
+    let es = tableEntries bytes i n in
+    let a = accepted-only bytes i n (length px) e h in
+    let g = matched-accepted w vs es (a .matched) in
+    let l : p < length vs = rw length-entries k in
+    let m : p < length (withEntries 0 w es 0 vs) = rw with-length l in
+    rw (le-ltb (length px) (pixelCount i) (a .room), le-ltb (length bytes) (textEnd i n) (a .whole), g)
+    (List·getD-append (withEntries 0 w es 0 vs) (drop (pixelCount i) px) 0 p m ∙ with-at 0 w es 0 vs p l ∙ rw (zero-add p))
+
+-- entries in their characters
+pub record Row : Type 0 where
+  pub text : List ℕ
+  pub entry : Entry
+
+abbrev pub row : List ℕ → Entry → Row
+row t e = record { text = t; entry = e }
+
+abbrev pub rows : List Row
+rows =
+    row (codes "      300     17") (E.Read 300 17) ∷
+    row (codes "0000003000000017") (E.Read 300 17) ∷
+    row (codes "9999999999999999") (E.Read 999999999 9999999) ∷
+    row (codes "              17") E.Malformed ∷
+    row (codes "      300       ") E.Malformed ∷
+    row (codes "      3 0     17") E.Malformed ∷
+    row (codes "     300      17") E.Malformed ∷
+    row (codes "     -300     17") E.Malformed ∷
+    row (codes "      300    17 ") E.Malformed ∷ []
+
+pub every-row : map (λ (r : Row). entryOf (r .text)) rows ≡ map (λ (r : Row). r .entry) rows
+unfolding entryOf
+every-row = refl

@@ -1,10 +1,10 @@
 -- The ways through a frame: refusals 10 and 11, and the parts that the filling is lent.
 -- Assumes nothing.
-use mathlib.Core.Path.{_≡_, refl, sym, ap, _∙_}
-use mathlib.Core.List.{List, [], _∷_, _++_}
-use Prim.Native.Nat.{ℕ, zero, suc, _+_, _-_, _*_, _≤_, _<_}
+use mathlib.Core.Path.{_≡_, _∙_}
+use mathlib.Core.List.{List, _++_}
+use Prim.Native.Nat.{ℕ, _+_, _-_, _*_, _≤_, _<_}
 use native.Mathlib.Omega.{arith}
-use lib.ListN.{length, take, drop, length-take, length-drop}
+use lib.ListN.{length, take, drop, length-drop}
 use lib.Seq.{length-take-le}
 use borrow.Author.Tests.{lt-ltb, le-ltb}
 use Rattle.refusal.specs.declared.Refusal.the-variants as R
@@ -13,7 +13,6 @@ use Rattle.layout.specs.Form.{widthBytes}
 use Rattle.layout.specs.Layout.{pixelCount, imageEnd, textTableBytes, textEnd}
 use Rattle.table.specs.Table.{entries}
 use Rattle.table.proofs.Laws.{entries-take as stored-take}
-use Rattle.overflow86.specs.declared.Entry.{Entry}
 use Rattle.overflow86.specs.declared.Checked.{Checked}
 use Rattle.overflow86.specs.declared.Expanded86.{Expanded86}
 use Rattle.overflow86.specs.declared.Expanded86.the-variants as X

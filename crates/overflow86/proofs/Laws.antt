@@ -2,17 +2,17 @@
 -- the marks that it leaves are the marked pixels without an entry.
 -- Assumes nothing.
 use mathlib.Core.Path.{_≡_, refl, sym, ap, _∙_}
-use mathlib.Core.Bool.{Bool, true, false, not, _&&_, _||_}
-use mathlib.Core.List.{List, [], _∷_, _++_, map, append-nil, append-assoc}
+use mathlib.Core.Bool.{Bool, true, false, not, _&&_}
+use mathlib.Core.List.{List, [], _∷_, _++_, map, append-nil}
 use Prim.Native.Nat.{ℕ, zero, suc, _+_, _-_, _*_, _^_, _≤_, _<_}
-use native.Mathlib.Nat.{one-le-pow, add-zero, zero-add, add-suc, suc-add, le-of-suc-le-suc, not-suc-le-zero}
-use native.Mathlib.Numerals.{add-one}
+use native.Mathlib.Nat.{one-le-pow, add-zero, zero-add, le-of-suc-le-suc, not-suc-le-zero}
 use native.Mathlib.Omega.{arith}
 use lib.ListN.{length, getD, take, drop, set, length-set}
 use lib.Seq.{append-snoc, getD-drop, getD-set-same, getD-set-other, ext-getD}
 use lib.Dec.{eqb, leb, ltb}
-use borrow.Author.Tests.{not-true, eq-eqb, ne-eqb, eqb-true, eqb-false, lt-ltb, le-ltb, ltb-true, ltb-false, le-leb}
+use borrow.Author.Tests.{not-true, eq-eqb, ne-eqb, eqb-true, eqb-false, lt-ltb, ltb-true, ltb-false, le-leb}
 use Rattle.lists.specs.Choose.{if_then_else_}
+use Rattle.lists.proofs.Tests.{and-true-left, and-true-right}
 use Rattle.layout.specs.declared.Width.{Width}
 use Rattle.layout.specs.declared.Width.the-variants as W
 use Rattle.layout.specs.Form.{widthBytes}
@@ -26,10 +26,10 @@ use Rattle.overflow86.specs.declared.Entry.{Entry}
 use Rattle.overflow86.specs.declared.Entry.the-variants as E
 use Rattle.overflow86.specs.declared.Checked.{Checked}
 use Rattle.overflow86.specs.declared.Checked.the-variants as C
-use Rattle.overflow86.specs.Entries.{entryOf, textEntries}
+use Rattle.overflow86.specs.Entries.{textEntries}
 use Rattle.overflow86.specs.Expand86.{isMarked, markedAt, isFor, intensityOf, hasEntry, isGood, firstBad, wanting, checkedOf, intensityAt, withEntries, framePixels}
 use Rattle.overflow86.specs.Steps.{waiting, takes, put, placing, placed, noEntries, placingIn, placedIn, countOf, waitingIf, marksIn, awaiting}
-use Rattle.overflow86.proofs.Texts.{entry-small, entries-length, and-left, and-right}
+use Rattle.overflow86.proofs.Texts.{entry-small, entries-length}
 
 -- no entry has the intensity that a waiting pixel holds
 abbrev pub Small : List Entry → Type 0
@@ -135,11 +135,11 @@ module _ (w : Width) (vs : List ℕ) (plain : (i : ℕ) → getD vs i 0 < waitin
   good-read : (es : List Entry) (v p : ℕ) → isGood w vs es (E.Read v p) ≡ true → Good es v p
   unfolding isGood
   good-read es v p g =
-      let a : markedAt w vs p ≡ true = and-left (markedAt w vs p) (not (hasEntry p es)) g in
+      let a : markedAt w vs p ≡ true = and-true-left (markedAt w vs p) (not (hasEntry p es)) g in
       record {
-        inside = ltb-true _ _ (and-left (ltb p (length vs)) (isMarked w (getD vs p 0)) a);
-        marked = and-right (ltb p (length vs)) (isMarked w (getD vs p 0)) a;
-        first = not-true _ (and-right (markedAt w vs p) (not (hasEntry p es)) g);
+        inside = ltb-true _ _ (and-true-left (ltb p (length vs)) (isMarked w (getD vs p 0)) a);
+        marked = and-true-right (ltb p (length vs)) (isMarked w (getD vs p 0)) a;
+        first = not-true _ (and-true-right (markedAt w vs p) (not (hasEntry p es)) g);
       }
 
   takes-good : (es : List Entry) (e : Entry) → Small es → takes (held w vs es) e ≡ isGood w vs es e
@@ -190,8 +190,8 @@ module _ (w : Width) (vs : List ℕ) (plain : (i : ℕ) → getD vs i 0 < waitin
   count-held es E.Malformed s z g = absurd (let n : false ≡ true = takes-good es E.Malformed s ∙ g in let y : _≡_ {A = ℕ} 0 1 = cc in omega arith)
   count-held es (E.Read v p) s z g =
       let t : takes (held w vs es) (E.Read v p) ≡ true = takes-good es (E.Read v p) s ∙ g in
-      let i : p < length (held w vs es) = ltb-true p (length (held w vs es)) (and-left (ltb p (length (held w vs es))) (eqb (getD (held w vs es) p 0) waiting) t) in
-      let q : getD (held w vs es) p 0 ≡ waiting = eqb-true _ _ (and-right (ltb p (length (held w vs es))) (eqb (getD (held w vs es) p 0) waiting) t) in
+      let i : p < length (held w vs es) = ltb-true p (length (held w vs es)) (and-true-left (ltb p (length (held w vs es))) (eqb (getD (held w vs es) p 0) waiting) t) in
+      let q : getD (held w vs es) p 0 ≡ waiting = eqb-true _ _ (and-true-right (ltb p (length (held w vs es))) (eqb (getD (held w vs es) p 0) waiting) t) in
       rw (← put-held es (E.Read v p) g) (count-set waiting (held w vs es) p v i q (λ k. omega arith))
 
   pub record Taken (earlier : List Entry) (k : ℕ) (es : List Entry) : Type 0 where

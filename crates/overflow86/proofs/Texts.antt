@@ -1,10 +1,10 @@
 -- Laws of an entry's characters.
 -- Assumes nothing.
-use mathlib.Core.Path.{_≡_, refl, sym, ap, _∙_}
+use mathlib.Core.Path.{_≡_, refl, ap, _∙_}
 use mathlib.Core.Bool.{Bool, true, false, _&&_}
 use mathlib.Core.List.{List, [], _∷_}
 use Prim.Native.Nat.{ℕ, zero, suc, _+_, _-_, _*_, _^_, _≤_, _<_}
-use native.Mathlib.Nat.{add-zero, add-suc, suc-add, zero-mul, suc-mul, pow-suc, one-le-pow, pow-le-pow-right, le-of-suc-le-suc, not-suc-le-zero}
+use native.Mathlib.Nat.{add-zero, pow-suc, one-le-pow, pow-le-pow-right, le-of-suc-le-suc, not-suc-le-zero}
 use native.Mathlib.Numerals.{add-one}
 use native.Mathlib.Omega.{arith}
 use lib.ListN.{length, getD, take, drop, length-take, length-drop, drop-of-length-le}
@@ -12,14 +12,14 @@ use lib.Seq.{drop-cons, drop-drop, take-take}
 use lib.Dec.{eqb, leb, ltb}
 use borrow.Author.Tests.{eq-eqb, ne-eqb, le-leb, lt-leb, lt-ltb, leb-true}
 use Rattle.lists.specs.Choose.{if_then_else_}
+use Rattle.lists.specs.Digits.{isDigit, allDigits, valueFrom}
+use Rattle.lists.proofs.Tests.{and-false, and-true-left, and-true-right}
 use Rattle.lists.proofs.Parts.{drop-take}
 use Rattle.overflow86.specs.declared.Number.{Number}
 use Rattle.overflow86.specs.declared.Number.the-variants as N
-use Rattle.overflow86.specs.declared.Entry.{Entry}
 use Rattle.overflow86.specs.declared.Entry.the-variants as E
-use Rattle.overflow86.specs.Entries.{afterSpaces, isDigit, allDigits, valueFrom, digitsNumber, textNumber, entryFrom, entryOf, textEntries}
+use Rattle.overflow86.specs.Entries.{afterSpaces, digitsNumber, textNumber, entryFrom, entryOf, textEntries}
 use Rattle.overflow86.specs.Expand86.{intensityOf}
-use Rattle.overflow86.specs.Steps.{waiting}
 
 -- one law for each way through the loop over the spaces
 module _ (t : List ℕ) (i : ℕ) where
@@ -37,20 +37,7 @@ module _ (t : List ℕ) (i : ℕ) where
 
 -- digits to the end of t, after digits of the value v
 unfoldable pub digitsFrom : ℕ → List ℕ → Number
-unfolding allDigits valueFrom
 digitsFrom v t = if allDigits t then N.Value (valueFrom v t) else N.Malformed
-
-and-false : (a : Bool) → (a && false) ≡ false
-and-false true = refl
-and-false false = refl
-
-pub and-left : (a b : Bool) → (a && b) ≡ true → a ≡ true
-and-left true b e = refl
-and-left false b e = e
-
-pub and-right : (a b : Bool) → (a && b) ≡ true → b ≡ true
-and-right true b e = e
-and-right false b e = absurd (let z : _≡_ {A = ℕ} 0 1 = cc in omega arith)
 
 ten-le : (i j : ℕ) → i ≤ j → 10 ^ i ≤ 10 ^ j
 ten-le i j h = pow-le-pow-right {n = 10} (omega arith) h
@@ -107,12 +94,11 @@ module _ {t : List ℕ} {from v i : ℕ} (f : Gathering t from v i) (short : len
 
 -- digits after digits of a value below 10 ^ n
 value-below : (t : List ℕ) (v n : ℕ) → allDigits t ≡ true → v < 10 ^ n → valueFrom v t < 10 ^ (n + length t)
-unfolding allDigits valueFrom
 value-below [] v n e h = rw (add-zero n) h
 value-below (b ∷ bs) v n e h =
-    let d : b ≤ 57 = leb-true b 57 (and-right (leb 48 b) (leb b 57) (and-left (isDigit b) (allDigits bs) e)) in
+    let d : b ≤ 57 = leb-true b 57 (and-true-right (leb 48 b) (leb b 57) (and-true-left (isDigit b) (allDigits bs) e)) in
     let m : n + length (b ∷ bs) ≡ suc n + length bs = omega arith in
-    rw m (value-below bs (v * 10 + (b - 48)) (suc n) (and-right (isDigit b) (allDigits bs) e) (grow v (b - 48) n h (omega arith)))
+    rw m (value-below bs (v * 10 + (b - 48)) (suc n) (and-true-right (isDigit b) (allDigits bs) e) (grow v (b - 48) n h (omega arith)))
 
 digits-below : (t : List ℕ) (v : ℕ) → digitsNumber t ≡ N.Value v → v < 10 ^ length t
 unfolding digitsNumber
@@ -122,7 +108,7 @@ digits-below t v p = go (ltb 0 (length t) && allDigits t) refl p
     go true q r =
         let e : v ≡ valueFrom 0 t = cc in
         let z : 0 + length t ≡ length t = omega arith in
-        rw (e, ← z) (value-below t 0 0 (and-right (ltb 0 (length t)) (allDigits t) q) (omega arith))
+        rw (e, ← z) (value-below t 0 0 (and-true-right (ltb 0 (length t)) (allDigits t) q) (omega arith))
     go false q r = absurd (let z : _≡_ {A = ℕ} 0 1 = cc in omega arith)
 
 spaces-shorten : (t : List ℕ) → length (afterSpaces t) ≤ length t

@@ -1,10 +1,11 @@
 -- Document 01, "Expanding pixels", FORMAT 86: the characters of the table.
-use Prim.Native.Nat.{ℕ, zero, suc, _+_, _-_, _*_}
-use mathlib.Core.Bool.{Bool, true, false, _&&_}
+use Prim.Native.Nat.{ℕ, zero, suc}
+use mathlib.Core.Bool.{_&&_}
 use mathlib.Core.List.{List, [], _∷_}
 use lib.ListN.{length, take, drop}
-use lib.Dec.{eqb, leb, ltb}
+use lib.Dec.{eqb, ltb}
 use Rattle.lists.specs.Choose.{if_then_else_}
+use Rattle.lists.specs.Digits.{allDigits, valueFrom}
 use Rattle.overflow86.specs.declared.Number.{Number}
 use Rattle.overflow86.specs.declared.Number.the-variants as N
 use Rattle.overflow86.specs.declared.Entry.{Entry}
@@ -15,22 +16,8 @@ unfoldable pub afterSpaces : List ℕ → List ℕ
 afterSpaces [] = []
 afterSpaces (b ∷ bs) = if eqb b 32 then afterSpaces bs else b ∷ bs
 
--- the characters 0 to 9
-abbrev pub isDigit : ℕ → Bool
-isDigit b = leb 48 b && leb b 57
-
-unfoldable pub allDigits : List ℕ → Bool
-allDigits [] = true
-allDigits (b ∷ bs) = isDigit b && allDigits bs
-
--- the decimal value of digits that follow digits of the value v
-unfoldable pub valueFrom : ℕ → List ℕ → ℕ
-valueFrom v [] = v
-valueFrom v (b ∷ bs) = valueFrom (v * 10 + (b - 48)) bs
-
 -- at least one digit, and digits to the end
 unfoldable pub digitsNumber : List ℕ → Number
-unfolding allDigits valueFrom
 digitsNumber t = if ltb 0 (length t) && allDigits t then N.Value (valueFrom 0 t) else N.Malformed
 
 -- spaces, perhaps none, then at least one digit, and digits to the end

@@ -1,12 +1,11 @@
 -- Document 01, "Expanding pixels", FORMAT 86: the answer and the pixels.
 use Prim.Native.Nat.{ℕ, suc}
-use mathlib.Core.Bool.{Bool, true, false, not, _&&_, _||_}
+use mathlib.Core.Bool.{Bool, false, not, _&&_, _||_}
 use mathlib.Core.List.{List, [], _∷_, _++_}
 use lib.ListN.{length, getD, drop}
 use lib.Dec.{eqb, ltb}
 use Rattle.lists.specs.Choose.{if_then_else_}
 use Rattle.lists.specs.Bytes.{zeros}
-use Rattle.refusal.specs.declared.Refusal.{Refusal}
 use Rattle.refusal.specs.declared.Refusal.the-variants as R
 use Rattle.layout.specs.declared.Width.{Width}
 use Rattle.layout.specs.declared.Width.the-variants as W
@@ -75,12 +74,12 @@ unfoldable pub checkedOf : Width → List ℕ → List Entry → Checked
 unfolding firstBad wanting
 checkedOf w vs es = thenWanting (firstBad w vs [] 0 es) (wanting w es 0 vs)
 
--- the intensity of the entry for pixel number p, and none where there is none
+-- the intensity of the entry for pixel number p; `none` if it has no entry
 unfoldable pub intensityAt : ℕ → ℕ → List Entry → ℕ
 intensityAt none p [] = none
 intensityAt none p (e ∷ es) = if isFor p e then intensityOf e else intensityAt none p es
 
--- each marked pixel of vs, whose pixel numbers count from i, becomes the intensity of its entry
+-- each marked pixel of vs, whose pixel numbers count from i, becomes the intensity of its entry, or `none`
 unfoldable pub withEntries : ℕ → Width → List Entry → ℕ → List ℕ → List ℕ
 unfolding intensityAt
 withEntries none w es i [] = []

@@ -140,6 +140,7 @@ fn place_entries(table: &[u8], n: u32, pixels: &mut [u32]) -> Checked
     checked
 }
 
+// What a stored pixel holds until its entry comes.
 fn waiting_if(v: u32, mark: u32) -> u32
     ensures { λ r. ⌜ r ≡ waitingIf mark v ⌝ }
 {
@@ -169,7 +170,7 @@ fn await_entries(pixels: &mut [u32], mark: u32) -> usize
 }
 
 // No early exit, so that the loop is made of vector instructions.
-fn has_mark(pixels: &[u32], mark: u32) -> bool
+fn any_mark(pixels: &[u32], mark: u32) -> bool
     ensures { λ r. ⌜ r ≡ ltb 0 (countOf mark (now (pixels .entry))) ⌝ }
 {
     let mut found = false;
@@ -190,7 +191,7 @@ fn load_block(image: &[u8], w: Width, mark: u32, pixels: &mut [u32]) -> usize
     ensures { λ _. ⌜ now (pixels .exit) ≡ map (waitingIf mark) (entries (widthBytes w) (length (now (pixels .entry))) (now (image .entry))) ⌝ }
 {
     table::load(image, w, pixels);
-    if has_mark(pixels, mark) {
+    if any_mark(pixels, mark) {
         return await_entries(pixels, mark);
     }
     0

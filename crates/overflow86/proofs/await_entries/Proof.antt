@@ -1,7 +1,6 @@
-use mathlib.Core.Path.{_≡_, refl, sym, ap, _∙_}
-use Prim.Native.Nat.{ℕ, _+_, _-_, _*_, _≤_, _<_}
+use Prim.Native.Nat.{_-_}
 use native.Mathlib.Omega.{arith}
-use lib.ListN.{length, getD, drop}
+use lib.ListN.{length, getD}
 use Rattle.overflow86.proofs.Loops.{Awaiting, awaiting-start, awaiting-on, awaiting-end, one-le}
 use Rattle.overflow86.proofs.await_entries.Statement.{statement}
 use Rattle.overflow86.proofs.await_entries.Tie as tie

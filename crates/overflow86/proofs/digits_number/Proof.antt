@@ -1,7 +1,7 @@
-use mathlib.Core.Path.{_≡_, refl, sym, ap, _∙_}
-use Prim.Native.Nat.{ℕ, _+_, _-_, _*_, _≤_, _<_}
+use mathlib.Core.Path.{sym, _∙_}
+use Prim.Native.Nat.{_-_}
 use native.Mathlib.Omega.{arith}
-use lib.ListN.{length, getD, drop}
+use lib.ListN.{length}
 use Rattle.overflow86.proofs.Texts.{Gathering, gathering-start, gathering-small, gathering-on, digit-low, digit-high, digit-end, digits-none}
 use Rattle.overflow86.proofs.digits_number.Statement.{statement}
 use Rattle.overflow86.proofs.digits_number.Tie as tie

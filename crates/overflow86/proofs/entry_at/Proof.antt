@@ -1,4 +1,3 @@
-use native.Mathlib.Omega.{arith}
 use borrow.Author.Needs.{needs}
 use Rattle.overflow86.proofs.Texts.{entry-parts}
 use Rattle.overflow86.proofs.entry_at.Statement.{statement}

@@ -1,4 +1,4 @@
-use mathlib.Core.Path.{_≡_, refl, sym, ap, _∙_}
+use mathlib.Core.Path.{ap, _∙_}
 use mathlib.Core.List.{map}
 use borrow.Author.Needs.{needs}
 use Rattle.overflow86.specs.Steps.{countOf, waitingIf}
@@ -10,8 +10,8 @@ use Rattle.overflow86.proofs.load_block.Tie as tie
 load-requires : tie.Need-load-requires
 load-requires c κs = search needs
 
-has-mark-requires : tie.Need-has-mark-requires
-has-mark-requires c κs = search needs
+any-mark-requires : tie.Need-any-mark-requires
+any-mark-requires c κs = search needs
 
 await-entries-requires : tie.Need-await-entries-requires
 await-entries-requires c κs = search needs
@@ -32,14 +32,14 @@ same-length-2 c = search needs
 returns-2 : tie.Need-returns-2
 returns-2 c =
     let s = c .before .before .before .before .before .before .before .before .before in
-    unmarked (s .args .mark) _ _ _ (loaded _ _ _ _ _ (s .pre) (c .before .before .before .before .before .load .ensures .1)) (c .before .has-mark .ensures) (c .if1 .left)
+    unmarked (s .args .mark) _ _ _ (loaded _ _ _ _ _ (s .pre) (c .before .before .before .before .before .load .ensures .1)) (c .before .any-mark .ensures) (c .if1 .left)
 
 pub load-block-spec : {M : Type 1} → statement M
 load-block-spec =
     tie.close
     (tie.spec
     load-requires
-    has-mark-requires
+    any-mark-requires
     await-entries-requires
     same-length
     returns

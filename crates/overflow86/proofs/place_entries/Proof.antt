@@ -1,7 +1,6 @@
-use mathlib.Core.Path.{_≡_, refl, sym, ap, _∙_}
-use Prim.Native.Nat.{ℕ, _+_, _-_, _*_, _≤_, _<_}
+use mathlib.Core.Path.{_≡_, refl, _∙_}
+use Prim.Native.Nat.{_-_}
 use native.Mathlib.Omega.{arith}
-use lib.ListN.{length, getD, drop}
 use Rattle.overflow86.specs.declared.Checked.the-variants as C
 use Rattle.overflow86.specs.Entries.{textEntries}
 use Rattle.overflow86.proofs.Texts.{entries-length}

@@ -1,6 +1,5 @@
-use mathlib.Core.Path.{_≡_, refl, sym, ap, _∙_}
+use mathlib.Core.Path.{refl}
 use borrow.Author.Needs.{needs}
-use native.Mathlib.Omega.{arith}
 use Rattle.overflow86.proofs.Laws.{none-good, none-bad}
 use Rattle.overflow86.proofs.take_entries.Statement.{statement}
 use Rattle.overflow86.proofs.take_entries.Tie as tie

@@ -3,8 +3,8 @@ use native.Mathlib.Omega.{arith}
 use mathlib.Core.Logic.{⊎-elim}
 use lib.ListN.{length}
 use Rattle.overflow86.proofs.Blocks.{Seeking, seeking-start, seeking-hit, seeking-miss, seeking-end}
-use Rattle.overflow86.proofs.has_mark.Statement.{statement}
-use Rattle.overflow86.proofs.has_mark.Tie as tie
+use Rattle.overflow86.proofs.any_mark.Statement.{statement}
+use Rattle.overflow86.proofs.any_mark.Tie as tie
 
 abbrev Inv-loop : tie.InvT-loop
 Inv-loop pixels mark found₀ i₀ found i = Seeking mark pixels found i
@@ -36,8 +36,8 @@ loop-again c =
 returns : tie.Need-returns Inv-loop μ-loop
 returns c = seeking-end (c .before .loop .inv) (c .loop-test .left)
 
-pub has-mark-spec : {M : Type 1} → statement M
-has-mark-spec =
+pub any-mark-spec : {M : Type 1} → statement M
+any-mark-spec =
     tie.close
     (tie.spec
     Inv-loop
