@@ -6,11 +6,12 @@ use mathlib.Core.Logic.{_↔_}
 use mathlib.Core.List.{List, _++_}
 use Prim.Native.Nat.{ℕ, _+_, _*_, _-_, _≤_}
 use native.Mathlib.Omega.{arith}
-use lib.ListN.{length, take, drop, length-take}
+use lib.ListN.{length, take, drop, length-take, length-append, length-drop, length-replicate}
 use lib.Dec.{eqb, ltb}
-use lib.Seq.{take-take}
+use lib.Seq.{take-take, drop-at}
 use borrow.Author.Tests.{ltb-false, le-ltb, eqb-true, not-false}
 use Rattle.lists.specs.Choose.{if_then_else_}
+use Rattle.lists.specs.Bytes.{zeros}
 use Rattle.refusal.specs.declared.Refusal.{Refusal}
 use Rattle.refusal.specs.declared.Refusal.the-variants as R
 use Rattle.layout.specs.declared.Image.{Image}
@@ -19,11 +20,11 @@ use Rattle.layout.specs.Form.{widthBytes}
 use Rattle.layout.specs.Layout.{pixelCount, imageEnd, twoStart, fourStart, tableBytes, underflowCount, underflowWidth, binaryEnd}
 use Rattle.table.specs.Table.{entries, allZero}
 use Rattle.table.proofs.Laws.{length-entries, drop-take, entries-take}
-use Rattle.expand.specs.Steps.{takenA, takenB, takenC, exhausted}
-use Rattle.expand.specs.Expand.{storedOf, tablePaddingZero, paddingZero, appliesC, tablesExhausted, baselineTooLarge, framePixels, binaryAnswer, binaryPixels}
+use Rattle.expand.specs.Steps.{takenA, takenB, takenC, exhausted, appliesA, appliesB, afterA, afterB}
+use Rattle.expand.specs.Expand.{storedOf, tablePaddingZero, paddingZero, appliesC, tablesExhausted, baselineTooLarge, framePixels, binaryAnswer, binaryPixels, baselineOf, firstPixels}
 use Rattle.expand.specs.declared.Expanded.{Expanded}
 use Rattle.expand.specs.declared.Expanded.the-variants.{Frame, Refused}
-use Rattle.expand.proofs.Steps.{no}
+use Rattle.expand.proofs.Steps.{no, length-fillIf}
 use Rattle.expand.proofs.Extents.{table-ge}
 
 -- None of 10, 11, 12, 14 and 15 is due, and the frame ends at end.
@@ -161,3 +162,50 @@ accepted-local bytes bytes′ i t pixels end e same =
       end-is = a .end-is;
     } in
     (accepted-iff bytes′ i t (length pixels) end .1 b, accepted-pixels bytes′ i t end pixels b ∙ rw q (sym (accepted-pixels bytes i t end pixels a)))
+
+-- the array keeps its length, and its places past N what stood there
+
+length-choice : (test : Bool) (n : ℕ) (xs ys : List ℕ) → length xs ≡ n → length ys ≡ n → length (if_then_else_ test xs ys) ≡ n
+length-choice true n xs ys e f = e
+length-choice false n xs ys e f = f
+
+pub first-length : (bytes : List ℕ) (i : Image) (t : BinaryTables) → length (firstPixels bytes i t) ≡ pixelCount i
+unfolding storedOf
+first-length bytes i t =
+    let n = pixelCount i in
+    let w = widthBytes (i .width) in
+    let s = storedOf bytes i t in
+    let z : length (zeros n) ≡ n = length-replicate n 0 in
+    let a = length-fillIf (appliesA w) 255 _ (s .image) (s .two) ∙ length-entries w n (drop (i .start) bytes) in
+    let b = length-fillIf (appliesB w) 65535 _ (afterA w s) (s .four) ∙ a in
+    let c = length-fillIf (appliesC (t .underflows)) 0 (λ (x : ℕ). x + baselineOf (t .underflows)) (afterB w s) (s .under) ∙ b in
+    length-choice (not (paddingZero bytes i t)) n _ _ z
+    (length-choice (not (tablesExhausted bytes i t)) n _ _ z
+    (length-choice (baselineTooLarge bytes i t) n _ _ z c))
+
+-- pixel places past N are never written
+pub past-kept : (bytes : List ℕ) (i : Image) (t : BinaryTables) (pixels : List ℕ) → drop (pixelCount i) (binaryPixels bytes i t pixels) ≡ drop (pixelCount i) pixels
+unfolding binaryPixels
+past-kept bytes i t pixels = go (ltb (length pixels) (pixelCount i)) (ltb (length bytes) (binaryEnd i t))
+  where
+    n : ℕ
+    n = pixelCount i
+
+    go : (short cut : Bool) → drop n (if_then_else_ short pixels (if_then_else_ cut pixels (firstPixels bytes i t ++ drop n pixels))) ≡ drop n pixels
+    go true cut = refl
+    go false true = refl
+    go false false = drop-at (firstPixels bytes i t) (drop n pixels) n (first-length bytes i t)
+
+pub length-kept : (bytes : List ℕ) (i : Image) (t : BinaryTables) (pixels : List ℕ) → length (binaryPixels bytes i t pixels) ≡ length pixels
+unfolding binaryPixels
+length-kept bytes i t pixels = go (ltb (length pixels) (pixelCount i)) (ltb (length bytes) (binaryEnd i t)) refl
+  where
+    n : ℕ
+    n = pixelCount i
+
+    go : (short cut : Bool) → ltb (length pixels) n ≡ short → length (if_then_else_ short pixels (if_then_else_ cut pixels (firstPixels bytes i t ++ drop n pixels))) ≡ length pixels
+    go true cut e = refl
+    go false true e = refl
+    go false false e =
+        let h = ltb-false (length pixels) n e in
+        simp (length-append, length-drop) (omega (arith, first-length bytes i t))

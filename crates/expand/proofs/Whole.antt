@@ -15,7 +15,7 @@ use Rattle.lists.specs.Choose.{if_then_else_}
 use Rattle.table.specs.Table.{entries}
 use Rattle.table.proofs.Laws.{entries-bytes, entries-part}
 use Rattle.expand.specs.Steps.{Stored, fillBy, replace, count, anyTooLarge, appliesA, appliesB, afterA, afterB, afterC, exhausted}
-use Rattle.expand.specs.Blocks.{stored, restOf, wrapped, Block, Lifted, Three, Whole}
+use Rattle.expand.specs.Blocks.{stored, restOf, wrapped, Replaced, Lifted, Stepped, Whole}
 use Rattle.expand.specs.declared.Cursors.{Cursors}
 use Rattle.expand.specs.declared.Under.{Under}
 use Rattle.expand.specs.declared.Taken.{Taken}
@@ -27,16 +27,16 @@ loaded w n image px₀ px h e = rw (le-leb _ _ h) at e
 
 -- steps a and b of a block
 
-pub block-hit : (vs px₁ px₂ px₃ e2 e4 : List ℕ) (c : Cursors) (a b : ℕ) → px₁ ≡ vs
+pub replaced-hit : (vs px₁ px₂ px₃ e2 e4 : List ℕ) (c : Cursors) (a b : ℕ) → px₁ ≡ vs
     → (a ≡ c .two + count 255 px₁) × (px₂ ≡ replace 255 px₁ (drop (c .two) e2))
     → (b ≡ c .four + count 65535 px₂) × (px₃ ≡ replace 65535 px₂ (drop (c .four) e4))
-    → Block 1 (stored vs [] e2 e4) px₃ c (record { two = a; four = b })
-block-hit vs px₁ px₂ px₃ e2 e4 c a b e ea eb = record { two-is = ea .0 ∙ rw e; four-is = eb .0 ∙ rw (ea .1, e); is = eb .1 ∙ rw (ea .1, e) }
+    → Replaced 1 (stored vs [] e2 e4) px₃ c (record { two = a; four = b })
+replaced-hit vs px₁ px₂ px₃ e2 e4 c a b e ea eb = record { two-is = ea .0 ∙ rw e; four-is = eb .0 ∙ rw (ea .1, e); is = eb .1 ∙ rw (ea .1, e) }
 
 -- no byte 255, and so no 65535 either
-pub block-miss : (image px e2 e4 : List ℕ) (n : ℕ) (c : Cursors) (r : Bool) → n ≤ length image → px ≡ entries 1 n image
-    → ((i : ℕ) → getD image i 0 < 65535) → r ≡ ltb 0 (count 255 (take n image)) → r ≡ false → Block 1 (stored (entries 1 n image) [] e2 e4) px c c
-block-miss image px e2 e4 n c r len e low er f =
+pub replaced-miss : (image px e2 e4 : List ℕ) (n : ℕ) (c : Cursors) (r : Bool) → n ≤ length image → px ≡ entries 1 n image
+    → ((i : ℕ) → getD image i 0 < 65535) → r ≡ ltb 0 (count 255 (take n image)) → r ≡ false → Replaced 1 (stored (entries 1 n image) [] e2 e4) px c c
+replaced-miss image px e2 e4 n c r len e low er f =
     let v : entries 1 n image ≡ take n image = entries-bytes n image len in
     let z : count 255 (entries 1 n image) ≡ 0 = rw v (none-of 255 _ r er f) in
     let y : count 65535 (entries 1 n image) ≡ 0
@@ -44,12 +44,12 @@ block-miss image px e2 e4 n c r len e low er f =
     let s = replace-none 255 (entries 1 n image) (drop (c .two) e2) z in
     record { two-is = omega arith; four-is = rw s (omega arith); is = e ∙ rw s (sym (replace-none 65535 _ (drop (c .four) e4) y)) }
 
-pub block-two : (vs px₁ px₂ e2 e4 : List ℕ) (c : Cursors) (b : ℕ) → px₁ ≡ vs
-    → (b ≡ c .four + count 65535 px₁) × (px₂ ≡ replace 65535 px₁ (drop (c .four) e4)) → Block 2 (stored vs [] e2 e4) px₂ c (record { two = c .two; four = b })
-block-two vs px₁ px₂ e2 e4 c b e eb = record { two-is = omega arith; four-is = eb .0 ∙ rw e; is = eb .1 ∙ rw e }
+pub replaced-two : (vs px₁ px₂ e2 e4 : List ℕ) (c : Cursors) (b : ℕ) → px₁ ≡ vs
+    → (b ≡ c .four + count 65535 px₁) × (px₂ ≡ replace 65535 px₁ (drop (c .four) e4)) → Replaced 2 (stored vs [] e2 e4) px₂ c (record { two = c .two; four = b })
+replaced-two vs px₁ px₂ e2 e4 c b e eb = record { two-is = omega arith; four-is = eb .0 ∙ rw e; is = eb .1 ∙ rw e }
 
-pub block-four : (vs px e2 e4 : List ℕ) (c : Cursors) → px ≡ vs → Block 4 (stored vs [] e2 e4) px c c
-block-four vs px e2 e4 c e = record { two-is = omega arith; four-is = omega arith; is = e }
+pub replaced-four : (vs px e2 e4 : List ℕ) (c : Cursors) → px ≡ vs → Replaced 4 (stored vs [] e2 e4) px c c
+replaced-four vs px e2 e4 c e = record { two-is = omega arith; four-is = omega arith; is = e }
 
 -- step c of a block
 
@@ -66,11 +66,11 @@ pub lifted-hit : (base : ℕ) (xs eu px : List ℕ) (u : Under) (over large : Bo
     → (next ≡ u .next + count 0 xs) × (px ≡ fillBy 0 (wrapped base) xs (drop (u .next) eu)) → Lifted true base xs eu px u (record { next = next; over = over })
 lifted-hit base xs eu px u over large next el eo e = record { next-is = e .0; over-is = eo ∙ rw el; is = e .1 }
 
-pub three-of : {w : ℕ} {step : Bool} {base : ℕ} {vs e2 e4 eu px₁ px : List ℕ} {t : Taken} {k : Cursors} {u : Under}
-    → Block w (stored vs [] e2 e4) px₁ (record { two = t .two; four = t .four }) k
+pub stepped-of : {w : ℕ} {step : Bool} {base : ℕ} {vs e2 e4 eu px₁ px : List ℕ} {t : Taken} {k : Cursors} {u : Under}
+    → Replaced w (stored vs [] e2 e4) px₁ (record { two = t .two; four = t .four }) k
     → Lifted step base px₁ eu px (record { next = t .under; over = t .over }) u
-    → Three w step base (stored vs eu e2 e4) px t (record { two = k .two; four = k .four; under = u .next; over = u .over })
-three-of b l = record {
+    → Stepped w step base (stored vs eu e2 e4) px t (record { two = k .two; four = k .four; under = u .next; over = u .over })
+stepped-of b l = record {
   two-is = b .two-is;
   four-is = b .four-is;
   under-is = l .next-is ∙ rw (b .is);
@@ -80,7 +80,7 @@ three-of b l = record {
 
 -- the steps on the values xs, and then on ys from where xs left the tables
 pub whole-more : {w : ℕ} {step : Bool} {base : ℕ} {xs ys eu e2 e4 px out : List ℕ} {t r : Taken}
-    → Whole w step base (stored xs eu e2 e4) px t → Three w step base (stored ys eu e2 e4) out t r → Whole w step base (stored (xs ++ ys) eu e2 e4) (px ++ out) r
+    → Whole w step base (stored xs eu e2 e4) px t → Stepped w step base (stored ys eu e2 e4) out t r → Whole w step base (stored (xs ++ ys) eu e2 e4) (px ++ out) r
 whole-more {w} {step} {base} {xs} {ys} {eu} {e2} {e4} {px} {out} {t} {r} f s =
     let rest = restOf (stored ys eu e2 e4) (t .two) (t .four) (t .under) in
     let A : afterA w (stored (xs ++ ys) eu e2 e4) ≡ afterA w (stored xs eu e2 e4) ++ afterA w rest
@@ -181,7 +181,7 @@ done-start w step base s px h = record {
 }
 
 done-more : {w : ℕ} {step : Bool} {base : ℕ} {s : Stored} {px₀ px ys : List ℕ} {t r : Taken} {p : ℕ} (e : ℕ) → Done w step base s px₀ px t p → p ≤ e → e ≤ length (s .image)
-    → Three w step base (stored (take (e - p) (drop p (s .image))) (s .under) (s .two) (s .four)) ys t r → Done w step base s px₀ (putMid p (e - p) px ys) r e
+    → Stepped w step base (stored (take (e - p) (drop p (s .image))) (s .under) (s .two) (s .four)) ys t r → Done w step base s px₀ (putMid p (e - p) px ys) r e
 done-more {w} {step} {base} {s} {px₀} {px} {ys} {t} {r} {p} e f h k b =
     let n : p + (e - p) ≡ e = omega arith in
     let whole : Whole w step base (firstOf e s) (take p px ++ ys) r = rw (take-split p e (s .image) h) (whole-more (f .is) b) in
@@ -227,7 +227,7 @@ tail-is at l = take-all (length l - at) (drop at l) (rw length-drop (omega arith
 -- a turn of the loop over the blocks
 pub done-next : {w : ℕ} {step : Bool} {base : ℕ} (image : List ℕ) {eu e2 e4 px₀ px ys : List ℕ} {t r : Taken} {p : ℕ} (e : ℕ)
     → Done w step base (stored (entries w (length px₀) image) eu e2 e4) px₀ px t p → p ≤ e → e ≤ length px₀
-    → Three w step base (stored (entries w (length (take (e - p) (drop p px))) (take (length image - p * w) (drop (p * w) image))) eu e2 e4) ys t r
+    → Stepped w step base (stored (entries w (length (take (e - p) (drop p px))) (take (length image - p * w) (drop (p * w) image))) eu e2 e4) ys t r
     → Done w step base (stored (entries w (length px₀) image) eu e2 e4) px₀ (putMid p (e - p) px ys) r e
 done-next {w} {step} {base} image {eu} {e2} {e4} {px₀} {px} {ys} {t} {r} {p} e f h k b =
     let q : entries w (length (take (e - p) (drop p px))) (take (length image - p * w) (drop (p * w) image)) ≡ take (e - p) (drop p (entries w (length px₀) image))

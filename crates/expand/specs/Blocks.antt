@@ -46,7 +46,7 @@ abbrev pub wrapIf : Bool → ℕ → List ℕ → List ℕ → List ℕ
 wrapIf step base xs es = if step then fillBy 0 (wrapped base) xs es else xs
 
 -- Steps a and b made a block: px are its pixels, c the next entries before it and r after it.
-pub record Block (w : ℕ) (s : Stored) (px : List ℕ) (c r : Cursors) : Type 0 where
+pub record Replaced (w : ℕ) (s : Stored) (px : List ℕ) (c r : Cursors) : Type 0 where
   pub two-is : r .two ≡ c .two + takenA w (restOf s (c .two) (c .four) 0)
   pub four-is : r .four ≡ c .four + takenB w (restOf s (c .two) (c .four) 0)
   pub is : px ≡ afterB w (restOf s (c .two) (c .four) 0)
@@ -58,7 +58,7 @@ pub record Lifted (step : Bool) (base : ℕ) (xs eu px : List ℕ) (u r : Under)
   pub is : px ≡ wrapIf step base xs (drop (u .next) eu)
 
 -- The three steps made px of a block.
-pub record Three (w : ℕ) (step : Bool) (base : ℕ) (s : Stored) (px : List ℕ) (t r : Taken) : Type 0 where
+pub record Stepped (w : ℕ) (step : Bool) (base : ℕ) (s : Stored) (px : List ℕ) (t r : Taken) : Type 0 where
   pub two-is : r .two ≡ t .two + takenA w (restOf s (t .two) (t .four) (t .under))
   pub four-is : r .four ≡ t .four + takenB w (restOf s (t .two) (t .four) (t .under))
   pub under-is : r .under ≡ t .under + takenC w step (restOf s (t .two) (t .four) (t .under))

@@ -11,7 +11,7 @@ ghost use Rattle.layout.specs.Layout.{pixelCount, binaryEnd};
 ghost use Rattle.table.specs.Table.{wholeEntries, entries};
 ghost use Rattle.expand.specs.Steps.{fillBy, replace, count, sumTooLarge, anyTooLarge};
 ghost use Rattle.expand.specs.Expand.{binaryAnswer, binaryPixels, firstPixels};
-ghost use Rattle.expand.specs.Blocks.{stored, partsOf, wrapped, Block, Lifted, Three, Whole, stepOf, extentOf, placesOf, gapZero, stepsAnswer, stepsPixels, frameAnswer};
+ghost use Rattle.expand.specs.Blocks.{stored, partsOf, wrapped, Replaced, Lifted, Stepped, Whole, stepOf, extentOf, placesOf, gapZero, stepsAnswer, stepsPixels, frameAnswer};
 use layout::BinaryTables;
 use layout::EntryWidth;
 use layout::Image;
@@ -130,9 +130,9 @@ fn fill_some(pixels: &mut [u32], mark: u32, t: &[u8], w: Width, from: usize) -> 
 }
 
 // Steps a and b of a block of width 1. A block with no 255 has no 65535 either.
-fn block1(image: &[u8], two: &[u8], four: &[u8], pixels: &mut [u32], c: Cursors) -> Cursors
+fn replace_block1(image: &[u8], two: &[u8], four: &[u8], pixels: &mut [u32], c: Cursors) -> Cursors
     requires { ⌜ (length (now pixels) ≤ length (now image)) × (c .two + length (now pixels) < 2 ^ 64) × (c .four + length (now pixels) < 2 ^ 64) ⌝ }
-    ensures { λ r. ⌜ Block 1 (stored (entries 1 (length (now (pixels .entry))) (now (image .entry))) [] (wholeEntries 2 (now (two .entry))) (wholeEntries 4 (now (four .entry)))) (now (pixels .exit)) c r ⌝ }
+    ensures { λ r. ⌜ Replaced 1 (stored (entries 1 (length (now (pixels .entry))) (now (image .entry))) [] (wholeEntries 2 (now (two .entry))) (wholeEntries 4 (now (four .entry)))) (now (pixels .exit)) c r ⌝ }
 {
     let n = pixels.len();
     table::load(image, Width::One, pixels);
@@ -146,12 +146,19 @@ fn block1(image: &[u8], two: &[u8], four: &[u8], pixels: &mut [u32], c: Cursors)
 }
 
 // Steps a and b of a block. Each width is written at the calls, so that each loop is compiled for its width.
-fn block(image: &[u8], w: Width, two: &[u8], four: &[u8], pixels: &mut [u32], c: Cursors) -> Cursors
+fn replace_block(
+    image: &[u8],
+    w: Width,
+    two: &[u8],
+    four: &[u8],
+    pixels: &mut [u32],
+    c: Cursors,
+) -> Cursors
     requires { ⌜ (length (now pixels) * widthBytes w ≤ length (now image)) × (c .two + length (now pixels) < 2 ^ 64) × (c .four + length (now pixels) < 2 ^ 64) ⌝ }
-    ensures { λ r. ⌜ Block (widthBytes w) (stored (entries (widthBytes w) (length (now (pixels .entry))) (now (image .entry))) [] (wholeEntries 2 (now (two .entry))) (wholeEntries 4 (now (four .entry)))) (now (pixels .exit)) c r ⌝ }
+    ensures { λ r. ⌜ Replaced (widthBytes w) (stored (entries (widthBytes w) (length (now (pixels .entry))) (now (image .entry))) [] (wholeEntries 2 (now (two .entry))) (wholeEntries 4 (now (four .entry)))) (now (pixels .exit)) c r ⌝ }
 {
     match w {
-        Width::One => block1(image, two, four, pixels, c),
+        Width::One => replace_block1(image, two, four, pixels, c),
         Width::Two => {
             table::load(image, Width::Two, pixels);
             let four = fill_some(pixels, 65535, four, Width::Four, c.four);
@@ -273,7 +280,7 @@ fn block_end(p: usize, n: usize) -> usize
 }
 
 // The three steps of a block.
-fn three(
+fn step_block(
     image: &[u8],
     w: Width,
     two: &[u8],
@@ -284,9 +291,9 @@ fn three(
     t: Taken,
 ) -> Taken
     requires { ⌜ (length (now pixels) * widthBytes w ≤ length (now image)) × (t .two + length (now pixels) < 2 ^ 64) × (t .four + length (now pixels) < 2 ^ 64) × (t .under + length (now pixels) < 2 ^ 64) ⌝ }
-    ensures { λ r. ⌜ Three (widthBytes w) (c .applies) (c .baseline) (partsOf (widthBytes w) (entryBytes (c .width)) (length (now (pixels .entry))) (now (image .entry)) (now (under .entry)) (now (two .entry)) (now (four .entry))) (now (pixels .exit)) t r ⌝ }
+    ensures { λ r. ⌜ Stepped (widthBytes w) (c .applies) (c .baseline) (partsOf (widthBytes w) (entryBytes (c .width)) (length (now (pixels .entry))) (now (image .entry)) (now (under .entry)) (now (two .entry)) (now (four .entry))) (now (pixels .exit)) t r ⌝ }
 {
-    let k = block(
+    let k = replace_block(
         image,
         w,
         two,
@@ -338,7 +345,7 @@ fn blocks(
     while p < pixels.len() {
         let e = block_end(p, pixels.len());
         let at = p * each;
-        t = three(&image[at..], w, two, four, under, c, &mut pixels[p..e], t);
+        t = step_block(&image[at..], w, two, four, under, c, &mut pixels[p..e], t);
         p = e;
     }
     t
@@ -506,7 +513,6 @@ fn expand_frame(
     let te = two.padding;
     let fs = four.start;
     let fe = four.padding;
-    let end = four.end;
     let w = image.width;
     expand_parts(
         &bytes[start..us],
@@ -515,7 +521,7 @@ fn expand_frame(
         &bytes[fs..fe],
         &bytes[us..ue],
         c,
-        end as u64,
+        four.end as u64,
         pixels,
     )
 }

@@ -1,12 +1,12 @@
-use Rattle.expand.proofs.Whole.{Done, done-start, done-next, done-whole, part-fits, part-length, tail-is, reach}
-use Rattle.expand.specs.Blocks.{partsOf}
-use Rattle.table.proofs.Laws.{length-entries}
-use Rattle.layout.specs.Form.{widthBytes, entryBytes}
-use borrow.Author.Needs.{needs}
-use lib.ListN.{length, length-drop}
-use native.Mathlib.Omega.{arith}
-use Prim.Native.Nat.{_*_, _-_, _≤_}
 use mathlib.Core.Path.{_≡_, sym}
+use Prim.Native.Nat.{_*_, _-_, _≤_}
+use native.Mathlib.Omega.{arith}
+use lib.ListN.{length, length-drop}
+use borrow.Author.Needs.{needs}
+use Rattle.layout.specs.Form.{widthBytes, entryBytes}
+use Rattle.table.proofs.Laws.{length-entries}
+use Rattle.expand.specs.Blocks.{partsOf}
+use Rattle.expand.proofs.Whole.{Done, done-start, done-next, done-whole, part-fits, part-length, tail-is, reach}
 use Rattle.expand.proofs.blocks.Statement.{statement}
 use Rattle.expand.proofs.blocks.Tie as tie
 
@@ -37,29 +37,29 @@ block-end-requires c κs = omega arith
 mul-at : tie.Need-mul-at Inv-loop μ-loop
 mul-at c = omega (arith, inside (c .before .before) (omega arith))
 
-sub-three : tie.Need-sub-three Inv-loop μ-loop
-sub-three c = omega (arith, inside (c .before .before) (omega arith))
+sub-step-block : tie.Need-sub-step-block Inv-loop μ-loop
+sub-step-block c = omega (arith, inside (c .before .before) (omega arith))
 
-part-three-start : tie.Need-part-three-start Inv-loop μ-loop
-part-three-start c = omega (arith, inside (c .before .before) (omega arith))
+part-step-block-start : tie.Need-part-step-block-start Inv-loop μ-loop
+part-step-block-start c = omega (arith, inside (c .before .before) (omega arith))
 
-part-three-end : tie.Need-part-three-end Inv-loop μ-loop
-part-three-end c = omega arith
+part-step-block-end : tie.Need-part-step-block-end Inv-loop μ-loop
+part-step-block-end c = omega arith
 
-mul-three : tie.Need-mul-three Inv-loop μ-loop
-mul-three c = omega arith
+mul-step-block : tie.Need-mul-step-block Inv-loop μ-loop
+mul-step-block c = omega arith
 
-sub-three-2 : tie.Need-sub-three-2 Inv-loop μ-loop
-sub-three-2 c = omega arith
+sub-step-block-2 : tie.Need-sub-step-block-2 Inv-loop μ-loop
+sub-step-block-2 c = omega arith
 
-part-three-start-2 : tie.Need-part-three-start-2 Inv-loop μ-loop
-part-three-start-2 c = omega arith
+part-step-block-start-2 : tie.Need-part-step-block-start-2 Inv-loop μ-loop
+part-step-block-start-2 c = omega arith
 
-part-three-end-2 : tie.Need-part-three-end-2 Inv-loop μ-loop
-part-three-end-2 c = omega arith
+part-step-block-end-2 : tie.Need-part-step-block-end-2 Inv-loop μ-loop
+part-step-block-end-2 c = omega arith
 
-three-requires : tie.Need-three-requires Inv-loop μ-loop
-three-requires c κs =
+step-block-requires : tie.Need-step-block-requires Inv-loop μ-loop
+step-block-requires c κs =
     let l = c .before .before .before .before .loop in
     let e = c .before .before .block-end in
     let s = c .before .before .before .before .before .before .before .before .before .before .before in
@@ -74,7 +74,7 @@ loop-less c = omega arith
 loop-again : tie.Need-loop-again Inv-loop μ-loop
 loop-again c =
     let l = c .before .before .before .before .before .before .before .loop in
-    (l .inv .0, done-next _ _ (l .inv .1) (omega arith) (omega arith) (rw (l .inv .0) at (c .before .before .three .ensures)))
+    (l .inv .0, done-next _ _ (l .inv .1) (omega arith) (omega arith) (rw (l .inv .0) at (c .before .before .step-block .ensures)))
 
 same-length : tie.Need-same-length Inv-loop μ-loop
 same-length c = c .before .loop .inv .1 .same
@@ -92,14 +92,14 @@ blocks-spec =
     loop-holds
     block-end-requires
     mul-at
-    sub-three
-    part-three-start
-    part-three-end
-    mul-three
-    sub-three-2
-    part-three-start-2
-    part-three-end-2
-    three-requires
+    sub-step-block
+    part-step-block-start
+    part-step-block-end
+    mul-step-block
+    sub-step-block-2
+    part-step-block-start-2
+    part-step-block-end-2
+    step-block-requires
     loop-less
     loop-again
     same-length

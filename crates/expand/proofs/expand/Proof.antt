@@ -1,9 +1,9 @@
-use Rattle.expand.proofs.Parts.{end-is}
-use Rattle.expand.specs.Expand.{binaryAnswer, binaryPixels}
-use borrow.Author.Tests.{lt-ltb, le-ltb}
-use lib.Seq.{length-take-le}
 use mathlib.Core.Path.{sym, _∙_}
+use lib.Seq.{length-take-le}
 use borrow.Author.Needs.{needs}
+use borrow.Author.Tests.{lt-ltb, le-ltb}
+use Rattle.expand.specs.Expand.{binaryAnswer, binaryPixels}
+use Rattle.expand.proofs.Parts.{end-is}
 use Rattle.expand.proofs.expand.Statement.{statement}
 use Rattle.expand.proofs.expand.Tie as tie
 

@@ -1,9 +1,9 @@
-use Rattle.expand.proofs.Parts.{inside, image-fits, padding-is, answer-is, pixels-are}
-use Rattle.lists.specs.Bytes.{zeros}
-use borrow.Author.Tests.{not-true, not-false}
-use native.Mathlib.Omega.{arith}
 use mathlib.Core.Path.{sym, ap, _∙_}
+use native.Mathlib.Omega.{arith}
 use borrow.Author.Needs.{needs}
+use borrow.Author.Tests.{not-true, not-false}
+use Rattle.lists.specs.Bytes.{zeros}
+use Rattle.expand.proofs.Parts.{inside, image-fits, padding-is, answer-is, pixels-are}
 use Rattle.expand.proofs.expand_frame.Statement.{statement}
 use Rattle.expand.proofs.expand_frame.Tie as tie
 

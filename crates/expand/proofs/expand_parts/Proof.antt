@@ -1,31 +1,39 @@
-use Rattle.expand.proofs.Whole.{exhausted-is, pixels-fit, whole-low}
-use Rattle.expand.proofs.Extents.{entry-pos}
+use mathlib.Core.Path.{_≡_, sym, ap, _∙_}
+use Prim.Native.Nat.{ℕ, _/_, _≤_}
+use native.Mathlib.Omega.{arith}
+use lib.ListN.{length}
+use borrow.Author.Needs.{needs}
+use borrow.Author.Tests.{not-true, not-false}
+use Rattle.lists.specs.Bytes.{zeros}
+use Rattle.layout.specs.Form.{widthBytes, entryBytes}
+use Rattle.table.proofs.Laws.{length-entries}
 use Rattle.expand.specs.Blocks.{partsOf}
 use Rattle.expand.specs.Steps.{Stored, exhausted}
-use Rattle.table.proofs.Laws.{length-entries}
-use Rattle.layout.specs.Form.{widthBytes, entryBytes}
-use Rattle.lists.specs.Bytes.{zeros}
-use borrow.Author.Tests.{not-true, not-false}
-use lib.ListN.{length}
-use native.Mathlib.Omega.{arith}
-use Prim.Native.Nat.{_/_, _≤_}
-use mathlib.Core.Path.{_≡_, sym, ap, _∙_}
-use borrow.Author.Needs.{needs}
+use Rattle.expand.proofs.Extents.{entry-pos}
+use Rattle.expand.proofs.Whole.{exhausted-is, pixels-fit, whole-low}
 use Rattle.expand.proofs.expand_parts.Statement.{statement}
 use Rattle.expand.proofs.expand_parts.Tie as tie
 
--- what the caller's lists are in values
-abbrev partsAt : (c : tie.Start) → Stored
+-- where the function starts
+abbrev start : tie.After-used-up → tie.Start
+start c = c .before .before .before .before .before .before .before .before .before .before .before
+
+-- the lists at the start, in values
+abbrev partsAt : tie.Start → Stored
 partsAt c =
     let a = c .args in
     partsOf (widthBytes (a .w)) (entryBytes (a .c .width)) (length (a .pixels .now)) (a .image .now) (a .under .now) (a .two .now) (a .four .now)
 
-spent : (c : tie.After-used-up) → exhausted (widthBytes (c .before .before .before .before .before .before .before .before .before .before .before .args .w)) (c .before .before .before .before .before .before .before .before .before .before .before .args .c .applies) (partsAt (c .before .before .before .before .before .before .before .before .before .before .before)) ≡ c .used-up .result
+spent : (c : tie.After-used-up) → exhausted (widthBytes (start c .args .w)) (start c .args .c .applies) (partsAt (start c)) ≡ c .used-up .result
 spent c =
-    let a = c .before .before .before .before .before .before .before .before .before .before .before .args in
+    let a = start c .args in
     exhausted-is (c .before .before .before .blocks2 .ensures) (length (a .two .now) / 2) (length (a .four .now) / 4) (length (a .under .now) / c .before .before .before .before .before .entry-bytes .result)
-    (length-entries _ _ _) (length-entries _ _ _) (rw (c .before .before .before .before .before .entry-bytes .ensures) (length-entries _ _ _)) (c .used-up .ensures)
+    (length-entries _ _ _)
+    (length-entries _ _ _)
+    (length-entries _ _ _ ∙ ap (λ (e : ℕ). length (a .under .now) / e) (sym (c .before .before .before .before .before .entry-bytes .ensures)))
+    (c .used-up .ensures)
 
+-- the blocks leave as many pixels as there were
 kept : (c : tie.After-blocks2) → length (c .blocks2 .last .1 .1 .1 .1 .1 .1 .0) ≡ length (c .before .before .before .before .before .before .before .before .args .pixels .now)
 kept c = whole-low (c .blocks2 .ensures) .long ∙ length-entries _ _ _
 

@@ -1,10 +1,10 @@
-use Rattle.expand.proofs.Extents.{table-le}
-use Rattle.expand.specs.Blocks.{extentOf}
-use Rattle.layout.proofs.Laws.{bytes-le}
-use Rattle.layout.specs.Form.{widthBytes}
-use native.Mathlib.Omega.{arith}
 use Prim.Native.Nat.{_*_, _≤_}
+use native.Mathlib.Omega.{arith}
 use borrow.Author.Needs.{needs}
+use Rattle.layout.specs.Form.{widthBytes}
+use Rattle.layout.proofs.Laws.{bytes-le}
+use Rattle.expand.specs.Blocks.{extentOf}
+use Rattle.expand.proofs.Extents.{table-le}
 use Rattle.expand.proofs.extent_of.Statement.{statement}
 use Rattle.expand.proofs.extent_of.Tie as tie
 

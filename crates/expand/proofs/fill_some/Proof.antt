@@ -1,7 +1,7 @@
-use Rattle.expand.proofs.Steps.{none-of, replace-none}
-use native.Mathlib.Omega.{arith}
 use mathlib.Core.Path.{sym}
+use native.Mathlib.Omega.{arith}
 use borrow.Author.Needs.{needs}
+use Rattle.expand.proofs.Steps.{none-of, replace-none}
 use Rattle.expand.proofs.fill_some.Statement.{statement}
 use Rattle.expand.proofs.fill_some.Tie as tie
 

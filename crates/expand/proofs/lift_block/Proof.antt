@@ -1,6 +1,6 @@
+use borrow.Author.Needs.{needs}
 use borrow.Author.Tests.{not-true, not-false}
 use Rattle.expand.proofs.Whole.{lifted-not, lifted-none, lifted-hit}
-use borrow.Author.Needs.{needs}
 use Rattle.expand.proofs.lift_block.Statement.{statement}
 use Rattle.expand.proofs.lift_block.Tie as tie
 

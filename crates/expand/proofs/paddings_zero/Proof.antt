@@ -1,5 +1,5 @@
-use borrow.Author.Tests.{not-true, not-false}
 use borrow.Author.Needs.{needs}
+use borrow.Author.Tests.{not-true, not-false}
 use Rattle.expand.proofs.paddings_zero.Statement.{statement}
 use Rattle.expand.proofs.paddings_zero.Tie as tie
 

@@ -1,8 +1,8 @@
-use Rattle.expand.proofs.Extents.{placed}
-use Rattle.layout.proofs.Laws.{bytes-le}
-use native.Mathlib.Omega.{arith}
 use Prim.Native.Nat.{_*_, _≤_}
+use native.Mathlib.Omega.{arith}
 use borrow.Author.Needs.{needs}
+use Rattle.layout.proofs.Laws.{bytes-le}
+use Rattle.expand.proofs.Extents.{placed}
 use Rattle.expand.proofs.places_of.Statement.{statement}
 use Rattle.expand.proofs.places_of.Tie as tie
 

@@ -1,5 +1,5 @@
-use Prim.Native.Nat.{_-_}
 use mathlib.Core.Logic.{⊎-elim}
+use Prim.Native.Nat.{_-_}
 use native.Mathlib.Omega.{arith}
 use lib.ListN.{length}
 use Rattle.table.proofs.Laws.{Scanning, scanning-start, scanning-other, scanning-zero, scanning-done}

@@ -1,11 +1,11 @@
-use lib.ListN.{length}
-use Rattle.expand.proofs.Whole.{loaded, block-hit, block-miss}
-use lib.Seq.{length-take-le}
-use native.Mathlib.Omega.{arith}
 use mathlib.Core.Path.{sym}
+use native.Mathlib.Omega.{arith}
+use lib.ListN.{length}
+use lib.Seq.{length-take-le}
 use borrow.Author.Needs.{needs}
-use Rattle.expand.proofs.block1.Statement.{statement}
-use Rattle.expand.proofs.block1.Tie as tie
+use Rattle.expand.proofs.Whole.{loaded, replaced-hit, replaced-miss}
+use Rattle.expand.proofs.replace_block1.Statement.{statement}
+use Rattle.expand.proofs.replace_block1.Tie as tie
 
 load-requires : tie.Need-load-requires
 load-requires c κs = search needs
@@ -29,7 +29,7 @@ returns : tie.Need-returns
 returns c =
     let s = c .before .before .before .before .before .before .before .before .before .before .before .before .before .before .before .before .before .before .before in
     let e = loaded 1 (length (s .args .pixels .now)) (s .args .image .now) _ _ (omega (arith, s .pre .0)) (c .before .before .before .before .before .before .before .before .before .before .before .before .before .load .ensures .1) in
-    block-hit _ _ _ _ _ _ _ _ _ e (c .before .before .before .before .before .before .fill-marked .ensures) (c .before .before .fill-some .ensures)
+    replaced-hit _ _ _ _ _ _ _ _ _ e (c .before .before .before .before .before .before .fill-marked .ensures) (c .before .before .fill-some .ensures)
 
 same-length-2 : tie.Need-same-length-2
 same-length-2 c = search needs
@@ -38,10 +38,10 @@ returns-2 : tie.Need-returns-2
 returns-2 c =
     let s = c .before .before .before .before .before .before .before .before .before .before .before in
     let e = loaded 1 (length (s .args .pixels .now)) (s .args .image .now) _ _ (omega (arith, s .pre .0)) (c .before .before .before .before .before .load .ensures .1) in
-    block-miss _ _ _ _ _ _ _ (s .pre .0) e (λ i. omega (arith, c .before .before .before .before .before .before .before .before .before .before .shared-slice-known .given i)) (c .before .has-byte .ensures) (c .if1 .left)
+    replaced-miss _ _ _ _ _ _ _ (s .pre .0) e (λ i. omega (arith, c .before .before .before .before .before .before .before .before .before .before .shared-slice-known .given i)) (c .before .has-byte .ensures) (c .if1 .left)
 
-pub block1-spec : {M : Type 1} → statement M
-block1-spec =
+pub replace-block1-spec : {M : Type 1} → statement M
+replace-block1-spec =
     tie.close
     (tie.spec
     load-requires

@@ -1,14 +1,14 @@
-use Rattle.expand.proofs.Whole.{loaded, block-two, block-four}
 use native.Mathlib.Omega.{arith}
 use borrow.Author.Needs.{needs}
-use Rattle.expand.proofs.block.Statement.{statement}
-use Rattle.expand.proofs.block.Tie as tie
+use Rattle.expand.proofs.Whole.{loaded, replaced-two, replaced-four}
+use Rattle.expand.proofs.replace_block.Statement.{statement}
+use Rattle.expand.proofs.replace_block.Tie as tie
 
 enum-told : tie.Need-enum-told
 enum-told c = search needs
 
-block1-requires : tie.Need-block1-requires
-block1-requires c κs =
+replace-block1-requires : tie.Need-replace-block1-requires
+replace-block1-requires c κs =
     let p = rw (c .before .enum-told .given .1) at (c .before .before .before .before .before .before .before .pre .0) in
     omega (arith, p)
 
@@ -31,7 +31,7 @@ same-length : tie.Need-same-length
 same-length c = search needs
 
 returns : tie.Need-returns
-returns c = rw (c .before .before .before .before .enum-told .given .1) (c .before .before .block1 .ensures)
+returns c = rw (c .before .before .before .before .enum-told .given .1) (c .before .before .replace-block1 .ensures)
 
 same-length-2 : tie.Need-same-length-2
 same-length-2 c = search needs
@@ -40,7 +40,7 @@ returns-2 : tie.Need-returns-2
 returns-2 c =
     let w = c .before .before .before .before .before .before .before .before .enum-told2 .given .1 in
     let e = loaded 2 _ _ _ _ (rw w at (c .before .before .before .before .before .before .before .before .before .before .before .before .before .before .pre .0)) (c .before .before .before .before .before .before .load .ensures .1) in
-    rw w (block-two _ _ _ _ _ _ _ e (c .before .before .fill-some .ensures))
+    rw w (replaced-two _ _ _ _ _ _ _ e (c .before .before .fill-some .ensures))
 
 same-length-3 : tie.Need-same-length-3
 same-length-3 c = search needs
@@ -49,14 +49,14 @@ returns-3 : tie.Need-returns-3
 returns-3 c =
     let w = c .before .before .before .before .enum-told3 .given .1 in
     let e = loaded 4 _ _ _ _ (rw w at (c .before .before .before .before .before .before .before .before .before .before .pre .0)) (c .before .before .load2 .ensures .1) in
-    rw w (block-four _ _ _ _ _ e)
+    rw w (replaced-four _ _ _ _ _ e)
 
-pub block-spec : {M : Type 1} → statement M
-block-spec =
+pub replace-block-spec : {M : Type 1} → statement M
+replace-block-spec =
     tie.close
     (tie.spec
     enum-told
-    block1-requires
+    replace-block1-requires
     enum-told-2
     load-requires
     fill-some-requires
