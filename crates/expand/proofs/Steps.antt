@@ -60,7 +60,7 @@ pub countIf-append : (t : Bool) (m : ℕ) (xs ys : List ℕ) → if_then_else_ t
 countIf-append true m xs ys = count-append m xs ys
 countIf-append false m xs ys = omega arith
 
-count-le : (m : ℕ) (xs : List ℕ) → count m xs ≤ length xs
+pub count-le : (m : ℕ) (xs : List ℕ) → count m xs ≤ length xs
 unfolding count
 count-le m [] = omega arith
 count-le m (x ∷ xs) = go (eqb x m) refl (count-le m xs)

@@ -62,9 +62,15 @@ lifted-none base xs eu px u over large marked el eo em f e =
     let k = none-of 0 xs marked em f in
     record { next-is = omega arith; over-is = eo ∙ rw el; is = e ∙ sym (fill-none 0 (wrapped base) xs (drop (u .next) eu) k) }
 
-pub lifted-hit : (base : ℕ) (xs eu px : List ℕ) (u : Under) (over large : Bool) (next : ℕ) → large ≡ anyTooLarge base xs → over ≡ (u .over || large)
-    → (next ≡ u .next + count 0 xs) × (px ≡ fillBy 0 (wrapped base) xs (drop (u .next) eu)) → Lifted true base xs eu px u (record { next = next; over = over })
-lifted-hit base xs eu px u over large next el eo e = record { next-is = e .0; over-is = eo ∙ rw el; is = e .1 }
+-- entries es are those of eu from the next one on, and so many of them were taken
+pub lifted-hit : (base : ℕ) (xs eu es px : List ℕ) (u : Under) (over large : Bool) (taken : ℕ) → large ≡ anyTooLarge base xs → over ≡ (u .over || large)
+    → es ≡ drop (u .next) eu → (taken ≡ 0 + count 0 xs) × (px ≡ fillBy 0 (wrapped base) xs es)
+    → Lifted true base xs eu px u (record { next = u .next + taken; over = over })
+lifted-hit base xs eu es px u over large taken el eo ee e = record {
+  next-is = omega (arith, e .0);
+  over-is = eo ∙ rw el;
+  is = e .1 ∙ ap (fillBy 0 (wrapped base) xs) ee;
+}
 
 pub stepped-of : {w : ℕ} {step : Bool} {base : ℕ} {vs e2 e4 eu px₁ px : List ℕ} {t : Taken} {k : Cursors} {u : Under}
     → Replaced w (stored vs [] e2 e4) px₁ (record { two = t .two; four = t .four }) k

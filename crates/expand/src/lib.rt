@@ -261,12 +261,20 @@ fn lift_block(pixels: &mut [u32], under: &[u8], c: StepC, u: Under) -> Under
     let width = c.width;
     match width {
         EntryWidth::One => {
-            let next = lift_marked(pixels, under, Width::One, base, u.next);
-            Under { next, over }
+            let rest = table::entries_from(under, Width::One, u.next);
+            let taken = lift_marked(pixels, rest, Width::One, base, 0);
+            Under {
+                next: u.next + taken,
+                over,
+            }
         }
         EntryWidth::Two => {
-            let next = lift_marked(pixels, under, Width::Two, base, u.next);
-            Under { next, over }
+            let rest = table::entries_from(under, Width::Two, u.next);
+            let taken = lift_marked(pixels, rest, Width::Two, base, 0);
+            Under {
+                next: u.next + taken,
+                over,
+            }
         }
     }
 }

@@ -7,11 +7,14 @@ use Prim.Native.Nat.{ℕ, zero, suc, _+_, _*_, _-_, _/_, _≤_, _<_}
 use native.Mathlib.Nat.{le-of-suc-le-suc, not-suc-le-zero, suc-mul, mul-le-mul-right, zero-mul, div-mul-le-self, mul-div-cancel}
 use native.Mathlib.Numerals.{add-one}
 use native.Mathlib.Omega.{arith}
-use lib.ListN.{length, take, drop, getD, set, List·getD-eq-default, length-drop}
+use lib.ListN.{length, take, drop, getD, set, List·getD-eq-default, length-drop, drop-of-length-le}
 use lib.Dec.{eqb}
 use lib.Seq.{take-suc, drop-drop, take-all, take-nil, length-take-le}
 use borrow.Author.Tests.{eq-eqb, ne-eqb}
 use Rattle.lists.specs.Bytes.{little}
+use Rattle.layout.specs.declared.Width.{Width}
+use Rattle.layout.specs.declared.Width.the-variants as W
+use Rattle.layout.specs.Form.{widthBytes}
 use Rattle.lists.proofs.Writing.{Writing, writing-start, writing-more}
 use Rattle.table.specs.Table.{entries, wholeEntries, allZero}
 
@@ -145,3 +148,24 @@ module _ {t : List ℕ} {z : Bool} {i : ℕ} (f : Scanning t z i) (h : i < lengt
 
 pub scanning-done : {t : List ℕ} {z : Bool} {i : ℕ} → Scanning t z i → length t ≤ i → z ≡ allZero t
 scanning-done {t} {z} {i} f h = rw (take-all i t h) at (f .is)
+
+-- the entries from k on: those of the bytes behind the first k
+count-from : (w : Width) (n k : ℕ) → (n - k * widthBytes w) / widthBytes w ≡ n / widthBytes w - k
+count-from W.One n k = omega arith
+count-from W.Two n k = omega arith
+count-from W.Four n k = omega arith
+
+pub whole-from : (w : Width) (k : ℕ) (t : List ℕ) → wholeEntries (widthBytes w) (drop (k * widthBytes w) t) ≡ drop k (wholeEntries (widthBytes w) t)
+whole-from w k t = rw (length-drop, count-from w (length t) k) (sym (drop-entries (widthBytes w) k (length t / widthBytes w) t))
+
+none-of : (w : Width) → 0 / widthBytes w ≡ 0
+none-of W.One = omega arith
+none-of W.Two = omega arith
+none-of W.Four = omega arith
+
+pub whole-past : (w : Width) (k : ℕ) (t s : List ℕ) → length s ≡ 0 → length t / widthBytes w ≤ k → wholeEntries (widthBytes w) s ≡ drop k (wholeEntries (widthBytes w) t)
+unfolding entries
+whole-past w k t [] e h =
+    let z : 0 / widthBytes w ≡ 0 = none-of w in
+    rw (z, drop-of-length-le (entries (widthBytes w) (length t / widthBytes w) t) {i = k} (rw length-entries h))
+whole-past w k t (b ∷ s) e h = absurd (omega arith)

@@ -38,6 +38,19 @@ pub fn entry(t: &[u8], w: Width, k: usize) -> u32
     }
 }
 
+// The table from entry k on; no entry where it has no such one.
+pub fn entries_from(t: &[u8], w: Width, k: usize) -> &[u8]
+    ensures { λ r. ⌜ wholeEntries (widthBytes w) (now r) ≡ drop k (wholeEntries (widthBytes w) (now (t .entry))) ⌝ }
+{
+    let each = layout::width_bytes(w);
+    let n = t.len();
+    if k < n / each {
+        let at = k * each;
+        return &t[at..];
+    }
+    &t[n..]
+}
+
 // As many entries as out has places, if t has them.
 pub fn load(t: &[u8], w: Width, out: &mut [u32]) -> bool
     ensures { λ r. ⌜ r ≡ leb (length (now (out .entry)) * widthBytes w) (length (now (t .entry))) ⌝ }
