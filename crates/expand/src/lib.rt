@@ -279,12 +279,12 @@ fn lift_block(pixels: &mut [u32], under: &[u8], c: StepC, u: Under) -> Under
     }
 }
 
-// The end of the block that starts at p: a block has 64 pixels.
+// The end of the block that starts at p: a block has 32 pixels.
 fn block_end(p: usize, n: usize) -> usize
     requires { ⌜ p < n ⌝ }
     ensures { λ r. ⌜ (p < r) × (r ≤ n) ⌝ }
 {
-    if 64 < n - p { p + 64 } else { n }
+    if 32 < n - p { p + 32 } else { n }
 }
 
 // The three steps of a block.
