@@ -56,6 +56,27 @@ ledgerRows =
     ∷ kept (zeros 16) 0 (date 1900 2 29) (L.Refused R.NotADate) (zeros 16)
     ∷ []
 
+-- each row by itself, which computes faster than all of them at once
+
+first-keep : holds (kept (zeros 16) 0 (date 2031 11 2) (L.Accepted 1) keptBytes)
+unfolding keepAnswer keepBytes bigFrom bigBytes
+first-keep = (refl, refl)
+
+same-day : holds (asked keptBytes 1 (date 2031 11 2) (P.Refused R.NotYet))
+unfolding purgeAnswer bigFrom
+same-day = refl
+
+next-day : holds (asked keptBytes 1 (date 2031 11 3) P.Allowed)
+unfolding purgeAnswer bigFrom
+next-day = refl
+
+two-withdrawn : holds (left (correction 17 300 301 ∷ keepLine (date 2031 11 2) ∷ correction 5 1 2 ∷ withdrawal ∷ withdrawal ∷ []) (correction 17 300 301 ∷ []))
+unfolding standing
+two-withdrawn = refl
+
+no-leap-day : holds (kept (zeros 16) 0 (date 1900 2 29) (L.Refused R.NotADate) (zeros 16))
+unfolding keepAnswer keepBytes bigFrom bigBytes
+no-leap-day = (refl, refl)
+
 pub ledger-rows : everyRow ledgerRows
-unfolding keepAnswer keepBytes purgeAnswer standing bigFrom bigBytes
-ledger-rows = ((refl, refl), (refl, (refl, (refl, ((refl, refl), tt)))))
+ledger-rows = (first-keep, (same-day, (next-day, (two-withdrawn, (no-leap-day, tt)))))
