@@ -1,6 +1,6 @@
 -- Document 01, "The ledger": dates are Gregorian, years 1 to 4095.
 use Prim.Native.Nat.{ℕ, _+_, _/_, _%_}
-use mathlib.Core.Bool.{Bool, true, false, not, _&&_, _||_}
+use mathlib.Core.Bool.{Bool, not, _&&_, _||_}
 use lib.Dec.{eqb, leb, ltb}
 use Rattle.lists.specs.Choose.{if_then_else_}
 use Rattle.calendar.specs.declared.Date.{Date}

@@ -1,16 +1,15 @@
 -- A line appended: what the lines are then, what stands, and that the ledger stays well formed.
 -- Assumes nothing.
 use mathlib.Core.Path.{_≡_, refl, sym, ap, _∙_}
-use mathlib.Core.Bool.{Bool, true, false, not, _&&_, _||_, or-assoc, or-false}
-use mathlib.Core.List.{List, [], _∷_, _++_, append-assoc, append-nil, reverse}
-use Prim.Native.Nat.{ℕ, zero, suc, pred, _+_, _-_, _*_, _/_, _≤_, _<_}
-use native.Mathlib.Nat.{suc-add, zero-add, zero-mul, add-zero}
-use native.Mathlib.Numerals.{add-one}
+use mathlib.Core.Bool.{Bool, true, false, _&&_, _||_, or-assoc, or-false}
+use mathlib.Core.List.{List, [], _∷_, _++_, append-assoc, append-nil}
+use Prim.Native.Nat.{ℕ, zero, suc, _+_, _*_, _≤_, _<_}
+use native.Mathlib.Nat.{suc-add, zero-add}
 use native.Mathlib.Omega.{arith}
 use lib.ListN.{length, take, drop, length-append, length-drop}
 use lib.Seq.{drop-drop, take-add, take-at, drop-at, length-take-le, drop-nil}
 use lib.Dec.{eqb, ltb}
-use borrow.Author.Tests.{lt-ltb, le-ltb, ltb-false, eq-eqb}
+use borrow.Author.Tests.{lt-ltb, le-ltb}
 use Rattle.lists.specs.Choose.{if_then_else_}
 use Rattle.lists.specs.Bytes.{big}
 use Rattle.lists.proofs.BigEndian.{length-bigBytes}
@@ -18,12 +17,12 @@ use Rattle.ledger.specs.declared.Line.{Line}
 use Rattle.ledger.specs.declared.LineAnswer.the-variants.{WellFormed, Malformed}
 use Rattle.ledger.specs.declared.Found.{Found}
 use Rattle.ledger.specs.declared.Found.the-variants.{At, Nothing}
-use Rattle.ledger.specs.Lines.{rightFor, fieldsOf, lineOf, lineNumber, lineBytes, linesOf, isMalformed, someMalformed}
+use Rattle.ledger.specs.Lines.{rightFor, fieldsOf, lineOf, lineNumber, lineBytes, linesOf, someMalformed}
 use Rattle.ledger.specs.Standing.{withdraws, standing, overdrawn, orElse, lastStanding, cancelled}
 use Rattle.ledger.specs.Ledger.{capacity, ledgerMalformed, withLine}
 use Rattle.ledger.proofs.Packing.{Sized, line-of-bytes}
-use Rattle.ledger.proofs.StandingLaws.{stack, depth, cancelled-is, stack-split, overdrawn-is, overdrawn-all, depth-small}
-use Rattle.ledger.proofs.Scanning.{some-split, line-fields}
+use Rattle.ledger.proofs.StandingLaws.{stack, depth, cancelled-is, stack-split}
+use Rattle.ledger.proofs.Scanning.{or-none, malformed-tests, some-split, line-fields}
 
 pub length-line : (l : Line) → length (lineBytes l) ≡ 16
 unfolding lineBytes
@@ -69,14 +68,6 @@ overdrawn-more earlier [] l = rw (append-nil earlier) (or-false _)
 overdrawn-more earlier (x ∷ ls) l =
     let e : (earlier ++ x ∷ []) ++ ls ≡ earlier ++ x ∷ ls = append-assoc earlier (x ∷ []) ls in
     rw (overdrawn-more (earlier ++ x ∷ []) ls l, e) (sym (or-assoc (withdraws x && eqb (length (standing earlier)) 0) (overdrawn (earlier ++ x ∷ []) ls) _))
-
-or-none : (a b : Bool) → (a || b) ≡ false → (a ≡ false) × (b ≡ false)
-or-none true b e = let z : _≡_ {A = ℕ} 0 1 = cc in absurd (omega arith)
-or-none false b e = (refl, e)
-
-malformed-tests : (t : List ℕ) (n : ℕ) → ledgerMalformed t n ≡ ltb (capacity t) n || (someMalformed n t || overdrawn [] (linesOf n t))
-unfolding ledgerMalformed
-malformed-tests t n = refl
 
 -- a line written after the first n
 

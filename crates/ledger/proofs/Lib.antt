@@ -2,4 +2,5 @@ pub mod LineLaws
 pub mod Packing
 pub mod StandingLaws
 pub mod Scanning
+pub mod Rows
 pub mod Appending

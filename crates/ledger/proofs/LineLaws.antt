@@ -1,24 +1,23 @@
 -- Lines in bytes: a line in two words, and packing and unpacking are inverse.
 -- Assumes nothing.
-use mathlib.Core.Path.{_≡_, refl, sym, ap, _∙_}
-use mathlib.Core.Bool.{Bool, true, false, not, _&&_}
-use mathlib.Core.List.{List, [], _∷_, _++_, append-assoc}
-use Prim.Native.Nat.{ℕ, zero, suc, _+_, _-_, _*_, _/_, _%_, _^_, _≤_, _<_}
+use mathlib.Core.Path.{_≡_, sym, ap, _∙_}
+use mathlib.Core.Bool.{Bool, true, false}
+use mathlib.Core.List.{List, _++_, append-assoc}
+use Prim.Native.Nat.{ℕ, _+_, _*_, _/_, _%_, _^_, _≤_, _<_}
 use native.Mathlib.Nat.{div-div-eq-div-mul}
 use native.Mathlib.Omega.{arith}
-use lib.ListN.{length, take, drop, getD, length-take, length-drop, length-append}
-use lib.Seq.{length-take-le, take-all, take-add, take-take, drop-drop, take-at, drop-at, getD-take, getD-drop}
-use lib.Dec.{eqb, leb, ltb}
+use lib.ListN.{length, take, drop, length-take, length-drop, length-append}
+use lib.Seq.{length-take-le, take-all, take-add, take-take, drop-drop, take-at, drop-at}
+use lib.Dec.{eqb, ltb}
 use borrow.Author.Tests.{eq-eqb, ne-eqb}
 use Rattle.lists.specs.Choose.{if_then_else_}
-use Rattle.lists.specs.Bytes.{bigFrom, big, bigBytes}
-use Rattle.lists.proofs.BigEndian.{big-append, big-from, big-bytes, bytes-join, bytes-big, big-below, length-bigBytes}
-use Rattle.calendar.specs.declared.Date.{Date}
+use Rattle.lists.specs.Bytes.{big, bigBytes}
+use Rattle.lists.proofs.BigEndian.{big-append, big-from, bytes-join, length-bigBytes}
 use Rattle.ledger.specs.declared.Kind.{Kind}
 use Rattle.ledger.specs.declared.Kind.the-variants.{Correction, Keep, Withdrawal}
 use Rattle.ledger.specs.declared.Line.{Line}
 use Rattle.ledger.specs.declared.LineAnswer.the-variants.{WellFormed, Malformed}
-use Rattle.ledger.specs.Lines.{kindNumber, kindFrom, rightFor, fieldsOf, isLine, lineFrom, lineOf, lineNumber, lineBytes, bytesAt}
+use Rattle.ledger.specs.Lines.{kindNumber, kindFrom, rightFor, fieldsOf, lineFrom, lineOf, lineNumber, bytesAt}
 use Rattle.ledger.specs.Ledger.{withLine}
 
 -- the bits of a number of two words that lie in the upper word

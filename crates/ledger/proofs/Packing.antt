@@ -1,23 +1,22 @@
 -- Packing and unpacking of lines are inverse.
 -- Assumes nothing.
 use mathlib.Core.Path.{_≡_, refl, sym, ap, _∙_}
-use mathlib.Core.Bool.{Bool, true, false, not, _&&_}
-use mathlib.Core.List.{List, [], _∷_, _++_}
-use Prim.Native.Nat.{ℕ, zero, suc, _+_, _-_, _*_, _/_, _%_, _^_, _≤_, _<_}
+use mathlib.Core.Bool.{Bool, true, false, _&&_}
+use mathlib.Core.List.{List}
+use Prim.Native.Nat.{ℕ, zero, suc, _+_, _*_, _/_, _%_, _^_, _<_}
 use native.Mathlib.Nat.{div-div-eq-div-mul, div-add-mod', suc-mul, mul-le-mul-right, mod-mod}
 use native.Mathlib.Omega.{arith}
-use lib.ListN.{length, take, drop, getD}
-use lib.Dec.{eqb, leb, ltb}
-use borrow.Author.Tests.{eq-eqb, ne-eqb, lt-ltb, ltb-true, eqb-true}
+use lib.ListN.{length, getD}
+use lib.Dec.{eqb, ltb}
+use borrow.Author.Tests.{eq-eqb, lt-ltb, ltb-true, eqb-true}
 use Rattle.lists.specs.Choose.{if_then_else_}
-use Rattle.lists.specs.Bytes.{bigFrom, big, bigBytes}
-use Rattle.lists.proofs.BigEndian.{big-bytes, bytes-big, big-below, length-bigBytes}
-use Rattle.calendar.specs.declared.Date.{Date}
+use Rattle.lists.specs.Bytes.{big, bigBytes}
+use Rattle.lists.proofs.BigEndian.{big-bytes, bytes-big, length-bigBytes}
 use Rattle.ledger.specs.declared.Kind.{Kind}
 use Rattle.ledger.specs.declared.Kind.the-variants.{Correction, Keep, Withdrawal}
 use Rattle.ledger.specs.declared.Line.{Line}
 use Rattle.ledger.specs.declared.LineAnswer.the-variants.{WellFormed, Malformed}
-use Rattle.ledger.specs.Lines.{kindNumber, kindFrom, rightFor, fieldsOf, isLine, lineFrom, lineOf, lineNumber, lineBytes}
+use Rattle.ledger.specs.Lines.{kindNumber, kindFrom, rightFor, fieldsOf, lineFrom, lineOf, lineNumber, lineBytes}
 use Rattle.ledger.proofs.LineLaws.{highWord, lowWord, line-words, low-fits, wordsLine, fields-words, old-fits, kind-bits, spare, kind-small, line-right}
 
 -- each field of a line is within its bits

@@ -1,28 +1,26 @@
 -- The survey of a ledger from its last line to its first.
 -- Assumes nothing.
 use mathlib.Core.Path.{_≡_, refl, sym, ap, _∙_}
-use mathlib.Core.Bool.{Bool, true, false, not, _&&_, _||_, or-true, or-assoc}
-use mathlib.Core.List.{List, [], _∷_, _++_}
-use Prim.Native.Nat.{ℕ, zero, suc, pred, _+_, _-_, _*_, _/_, _≤_, _<_}
-use native.Mathlib.Nat.{suc-add, zero-add, zero-mul, add-zero}
+use mathlib.Core.Bool.{Bool, true, false, _||_, or-true, or-assoc}
+use mathlib.Core.List.{List, [], _∷_}
+use Prim.Native.Nat.{ℕ, zero, suc, _+_, _-_, _*_, _≤_, _<_}
+use native.Mathlib.Nat.{suc-add, zero-add}
 use native.Mathlib.Numerals.{add-one}
 use native.Mathlib.Omega.{arith}
 use lib.ListN.{length, take, drop}
 use lib.Seq.{drop-drop}
 use lib.Dec.{eqb, ltb}
-use borrow.Author.Tests.{lt-ltb, le-ltb, eq-eqb}
+use borrow.Author.Tests.{lt-ltb, le-ltb}
 use Rattle.lists.specs.Choose.{if_then_else_}
 use Rattle.lists.specs.Bytes.{big}
 use Rattle.ledger.specs.declared.Line.{Line}
-use Rattle.ledger.specs.declared.LineAnswer.{LineAnswer}
 use Rattle.ledger.specs.declared.LineAnswer.the-variants.{WellFormed, Malformed}
-use Rattle.ledger.specs.declared.Found.{Found}
-use Rattle.ledger.specs.declared.Found.the-variants.{At, Nothing}
+use Rattle.ledger.specs.declared.Found.the-variants.{Nothing}
 use Rattle.ledger.specs.declared.Scan.{Scan}
 use Rattle.ledger.specs.declared.Summary.{Summary}
 use Rattle.ledger.specs.declared.SurveyAnswer.the-variants as Y
-use Rattle.ledger.specs.Lines.{fieldsOf, lineFrom, lineOf, bytesAt, linesOf, isMalformed, someMalformed}
-use Rattle.ledger.specs.Standing.{withdraws, keeps, anyLine, cancelled, standing, overdrawn, orElse, lastStanding}
+use Rattle.ledger.specs.Lines.{fieldsOf, lineOf, bytesAt, linesOf, isMalformed, someMalformed}
+use Rattle.ledger.specs.Standing.{withdraws, keeps, anyLine, cancelled, standing, overdrawn, lastStanding}
 use Rattle.ledger.specs.Ledger.{capacity, ledgerMalformed, summaryOf, surveyOf, scanBack}
 use Rattle.ledger.proofs.Packing.{line-read}
 use Rattle.ledger.proofs.StandingLaws.{depth, cancelled-is, overdrawn-all, depth-small, standing-small}
@@ -187,3 +185,16 @@ survey-sound t n s e = go (ledgerMalformed t n) refl (sym (survey-tests t n) ∙
     go : (b : Bool) → ledgerMalformed t n ≡ b → if_then_else_ b Y.Malformed (Y.Surveyed (summaryOf (linesOf n t))) ≡ Y.Surveyed s → Sound t n s
     go true p q = let z : _≡_ {A = ℕ} 0 1 = cc in absurd (omega arith)
     go false p q = record { well = p; is = cc }
+
+-- what it means that there is no refusal 20
+
+pub or-none : (a b : Bool) → (a || b) ≡ false → (a ≡ false) × (b ≡ false)
+or-none true b e = let z : _≡_ {A = ℕ} 0 1 = cc in absurd (omega arith)
+or-none false b e = (refl, e)
+
+pub malformed-tests : (t : List ℕ) (n : ℕ) → ledgerMalformed t n ≡ ltb (capacity t) n || (someMalformed n t || overdrawn [] (linesOf n t))
+unfolding ledgerMalformed
+malformed-tests t n = refl
+
+pub lines-well : (t : List ℕ) (n : ℕ) → ledgerMalformed t n ≡ false → someMalformed n t ≡ false
+lines-well t n e = or-none (someMalformed n t) _ (or-none (ltb (capacity t) n) _ (sym (malformed-tests t n) ∙ e) .1) .0

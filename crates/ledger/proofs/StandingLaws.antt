@@ -4,17 +4,14 @@ use mathlib.Core.Path.{_≡_, refl, sym, ap, _∙_}
 use mathlib.Core.Bool.{Bool, true, false, not, _&&_, _||_}
 use mathlib.Core.List.{List, [], _∷_, _++_, reverse, reverse-append, append-assoc, append-nil}
 use Prim.Native.Nat.{ℕ, zero, suc, pred, _+_, _-_, _≤_, _<_}
-use native.Mathlib.Numerals.{add-one}
 use native.Mathlib.Omega.{arith}
-use lib.ListN.{length, drop, length-append, length-drop, length-reverse}
+use lib.ListN.{length, drop, length-drop, length-reverse}
 use lib.Seq.{drop-nil}
 use lib.Dec.{eqb, ltb}
-use borrow.Author.Tests.{lt-ltb, le-ltb, ltb-true, ltb-false, eq-eqb, ne-eqb}
+use borrow.Author.Tests.{lt-ltb, le-ltb, ltb-true, ltb-false, ne-eqb}
 use Rattle.lists.specs.Choose.{if_then_else_}
 use Rattle.ledger.specs.declared.Line.{Line}
-use Rattle.ledger.specs.declared.Found.{Found}
-use Rattle.ledger.specs.declared.Found.the-variants.{At, Nothing}
-use Rattle.ledger.specs.Standing.{withdraws, outnumbered, cancelled, standing, overdrawn, orElse, lastStanding}
+use Rattle.ledger.specs.Standing.{withdraws, outnumbered, cancelled, standing, overdrawn}
 
 -- the pile after the lines, top first
 unfoldable pub stack : List Line → List Line → List Line

@@ -1,9 +1,9 @@
 -- Document 01, "The ledger" and "Numbers given back": what the calls on a ledger answer and leave.
 use Prim.Native.Nat.{ℕ, _+_, _-_, _*_, _/_}
-use mathlib.Core.Bool.{Bool, true, false, not, _&&_, _||_}
-use mathlib.Core.List.{List, [], _∷_, _++_}
+use mathlib.Core.Bool.{Bool, not, _||_}
+use mathlib.Core.List.{List, [], _++_}
 use lib.ListN.{length, take, drop}
-use lib.Dec.{eqb, leb, ltb}
+use lib.Dec.{leb, ltb}
 use Rattle.lists.specs.Choose.{if_then_else_}
 use Rattle.refusal.specs.declared.Refusal.the-variants as R
 use Rattle.calendar.specs.declared.Date.{Date}

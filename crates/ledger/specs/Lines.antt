@@ -1,10 +1,10 @@
 -- Document 01, "The ledger": a line is 16 bytes, fields from the most significant bit:
 -- kind 2, year 12, month 4, day 5, pixel 24, old 32, new 32, spare 17.
 use Prim.Native.Nat.{ℕ, zero, suc, _+_, _*_, _/_, _%_, _^_}
-use mathlib.Core.Bool.{Bool, true, false, not, _&&_, _||_}
-use mathlib.Core.List.{List, [], _∷_, _++_}
+use mathlib.Core.Bool.{Bool, true, false, _&&_, _||_}
+use mathlib.Core.List.{List, [], _∷_}
 use lib.ListN.{length, take, drop}
-use lib.Dec.{eqb, leb, ltb}
+use lib.Dec.{eqb, ltb}
 use Rattle.lists.specs.Choose.{if_then_else_}
 use Rattle.lists.specs.Bytes.{big, bigBytes}
 use Rattle.calendar.specs.declared.Date.{Date}

@@ -1,26 +1,24 @@
 -- The lines of a listing, written from the last to the first.
 -- Assumes nothing.
 use mathlib.Core.Path.{_≡_, refl, sym, ap, _∙_, subst}
-use mathlib.Core.Bool.{Bool, true, false, not, _&&_, _||_}
-use mathlib.Core.List.{List, [], _∷_, _++_, append-nil}
-use Prim.Native.Nat.{ℕ, zero, suc, pred, _+_, _-_, _*_, _/_, _≤_, _<_}
+use mathlib.Core.Bool.{Bool, true, false, not, _&&_}
+use mathlib.Core.List.{List, _∷_, _++_}
+use Prim.Native.Nat.{ℕ, zero, suc, _+_, _-_, _*_, _≤_, _<_}
 use native.Mathlib.Numerals.{add-one}
 use native.Mathlib.Omega.{arith}
-use lib.ListN.{length, take, drop}
-use lib.Dec.{ltb}
-use borrow.Author.Tests.{lt-ltb, le-ltb}
-use Rattle.lists.specs.Choose.{if_then_else_}
+use lib.ListN.{length, drop}
+use borrow.Author.Tests.{lt-ltb}
 use Rattle.lists.specs.Bytes.{big}
 use Rattle.ledger.specs.declared.Line.{Line}
 use Rattle.ledger.specs.declared.LineAnswer.the-variants.{WellFormed, Malformed}
-use Rattle.ledger.specs.Lines.{fieldsOf, lineOf, bytesAt, linesOf, isMalformed, someMalformed}
+use Rattle.ledger.specs.Lines.{fieldsOf, lineOf, bytesAt, linesOf, someMalformed}
 use Rattle.ledger.specs.Standing.{withdraws, cancelled}
 use Rattle.ledger.proofs.StandingLaws.{depth, cancelled-is, depth-small}
 use Rattle.ledger.proofs.Scanning.{lines-from, malformed-from, malformed-later, line-fields, length-lines}
 use Rattle.listing.specs.declared.Step.{Step}
 use Rattle.listing.specs.Writing.{Wrote}
 use Rattle.listing.specs.Listing.{lineText, linesText, stepBack}
-use Rattle.listing.proofs.WritingLaws.{wrote-none, wrote-then, wrote-length}
+use Rattle.listing.proofs.WritingLaws.{wrote-none, wrote-then}
 use Rattle.listing.proofs.Lengths.{length-line}
 
 -- what the step back says of a line and the lines after it

@@ -1,9 +1,9 @@
 -- How long the parts of a listing can be.
 -- Assumes nothing.
-use mathlib.Core.Path.{_≡_, refl, sym, ap, _∙_}
+use mathlib.Core.Path.{_≡_, refl}
 use mathlib.Core.Bool.{Bool, true, false}
-use mathlib.Core.List.{List, [], _∷_, _++_}
-use Prim.Native.Nat.{ℕ, zero, suc, _+_, _*_, _≤_}
+use mathlib.Core.List.{_++_}
+use Prim.Native.Nat.{ℕ, _≤_}
 use native.Mathlib.Omega.{arith}
 use lib.ListN.{length, length-append}
 use Rattle.lists.specs.Text.{codes}
@@ -11,7 +11,7 @@ use Rattle.calendar.specs.declared.Date.{Date}
 use Rattle.ledger.specs.declared.Kind.{Kind}
 use Rattle.ledger.specs.declared.Kind.the-variants.{Correction, Keep, Withdrawal}
 use Rattle.ledger.specs.declared.Line.{Line}
-use Rattle.listing.specs.Listing.{digits, decimal, dateText, countsText, kindText, endText, lineText, linesText, standingText, newline}
+use Rattle.listing.specs.Listing.{decimal, dateText, countsText, kindText, endText, lineText, standingText, newline}
 use Rattle.listing.proofs.WritingLaws.{length-decimal}
 
 pub length-date : (d : Date) → length (dateText d) ≡ 10

@@ -1,25 +1,25 @@
 -- The answer and the buffer of a listing.
 -- Assumes nothing.
-use mathlib.Core.Path.{_≡_, refl, sym, ap, _∙_}
-use mathlib.Core.Bool.{Bool, true, false, not, _&&_, _||_}
+use mathlib.Core.Path.{_≡_, refl, ap, _∙_}
+use mathlib.Core.Bool.{Bool, true, false, not, _&&_}
 use mathlib.Core.List.{List, [], _∷_, _++_, append-nil}
-use Prim.Native.Nat.{ℕ, zero, suc, _+_, _-_, _*_, _/_, _%_, _≤_, _<_}
+use Prim.Native.Nat.{ℕ, suc, _+_, _-_, _*_, _%_, _≤_, _<_}
 use native.Mathlib.Omega.{arith}
-use lib.ListN.{length, take, drop, length-append}
+use lib.ListN.{length, length-append}
 use lib.Seq.{drop-length}
 use lib.Dec.{eqb, leb, ltb}
 use borrow.Author.Tests.{lt-ltb, le-ltb, lt-leb, le-leb, eq-eqb, ne-eqb, ltb-false}
 use Rattle.lists.specs.Choose.{if_then_else_}
 use Rattle.ledger.specs.declared.Line.{Line}
-use Rattle.ledger.specs.Lines.{linesOf, someMalformed}
-use Rattle.ledger.specs.Standing.{withdraws, cancelled, standing, overdrawn}
+use Rattle.ledger.specs.Lines.{linesOf}
+use Rattle.ledger.specs.Standing.{withdraws, cancelled, standing}
 use Rattle.ledger.specs.declared.Summary.{Summary}
 use Rattle.ledger.specs.Ledger.{capacity, ledgerMalformed, summaryOf}
 use Rattle.ledger.proofs.StandingLaws.{standing-small}
 use Rattle.ledger.proofs.Scanning.{length-lines, Sound}
 use Rattle.listing.specs.declared.ListAnswer.the-variants.{Listed, TooShort}
 use Rattle.listing.specs.Writing.{Wrote}
-use Rattle.listing.specs.Listing.{lineText, linesText, standingText, refusedText, isListed, linesListed, listingText, listingRoom, shownAnswer, shownBytes, listAnswer, listBytes}
+use Rattle.listing.specs.Listing.{linesText, standingText, refusedText, isListed, linesListed, listingText, listingRoom, shownAnswer, shownBytes, listAnswer, listBytes}
 use Rattle.listing.proofs.Lengths.{length-line, length-standing}
 use Rattle.listing.proofs.Entering.{lines-cons}
 
@@ -65,10 +65,6 @@ tests-are : (t : List ℕ) → isListed t ≡ eqb (length t % 16) 0 && (leb (len
 unfolding isListed
 tests-are t = refl
 
-malformed-tests : (t : List ℕ) (n : ℕ) → ledgerMalformed t n ≡ ltb (capacity t) n || (someMalformed n t || overdrawn [] (linesOf n t))
-unfolding ledgerMalformed
-malformed-tests t n = refl
-
 module _ (t out : List ℕ) where
   pub refused-as : isListed t ≡ false → (shownAnswer (length out) 32 refusedText ≡ listAnswer t (length out)) × (shownBytes out 32 refusedText ≡ listBytes t out)
   refused-as e = (rw (answer-is, room-is, text-is, e), rw (bytes-are, room-is, text-is, e))
@@ -92,14 +88,6 @@ module _ (t : List ℕ) where
 
   pub listed : length t % 16 ≡ 0 → length t ≤ 65536 → ledgerMalformed t (capacity t) ≡ false → isListed t ≡ true
   listed z h m = rw (tests-are, eq-eqb _ 0 z, le-leb _ _ h, m)
-
-pub well-formed : (t : List ℕ) (n : ℕ) → ledgerMalformed t n ≡ false → someMalformed n t ≡ false
-well-formed t n e = go (ltb (capacity t) n) (someMalformed n t) (sym (malformed-tests t n) ∙ e)
-  where
-    go : (a b : Bool) → (a || (b || overdrawn [] (linesOf n t))) ≡ false → b ≡ false
-    go true b q = let z : _≡_ {A = ℕ} 0 1 = cc in absurd (omega arith)
-    go false true q = let z : _≡_ {A = ℕ} 0 1 = cc in absurd (omega arith)
-    go false false q = refl
 
 -- the text fits the room that is asked for
 

@@ -1,5 +1,5 @@
-use Rattle.listing.proofs.Showing.{refused-as, listed-as, broken, longer, malformed, listed, well-formed, count-is, count-small}
-use Rattle.ledger.proofs.Scanning.{survey-malformed, survey-sound}
+use Rattle.listing.proofs.Showing.{refused-as, listed-as, broken, longer, malformed, listed, count-is, count-small}
+use Rattle.ledger.proofs.Scanning.{survey-malformed, survey-sound, lines-well}
 use native.Mathlib.Omega.{arith}
 use mathlib.Core.Path.{sym, _∙_}
 use borrow.Author.Needs.{needs}
@@ -57,7 +57,7 @@ cast-put-listing c =
 put-listing-requires : tie.Need-put-listing-requires
 put-listing-requires c κs =
     let s = survey-sound _ _ _ (sym (c .before .before .before .before .before .survey .ensures) ∙ c .before .before .before .summary .given .1) in
-    (omega arith, well-formed _ _ (s .well))
+    (omega arith, lines-well _ _ (s .well))
 
 same-length-4 : tie.Need-same-length-4
 same-length-4 c = search needs
