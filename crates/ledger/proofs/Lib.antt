@@ -2,5 +2,4 @@ pub mod LineLaws
 pub mod Packing
 pub mod StandingLaws
 pub mod Scanning
-pub mod Rows
 pub mod Appending

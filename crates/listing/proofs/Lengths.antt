@@ -11,7 +11,8 @@ use Rattle.calendar.specs.declared.Date.{Date}
 use Rattle.ledger.specs.declared.Kind.{Kind}
 use Rattle.ledger.specs.declared.Kind.the-variants.{Correction, Keep, Withdrawal}
 use Rattle.ledger.specs.declared.Line.{Line}
-use Rattle.listing.specs.Listing.{decimal, dateText, countsText, kindText, endText, lineText, standingText, newline}
+use Rattle.listing.specs.Listing.{dateText, countsText, kindText, endText, lineText, standingText, newline}
+use Rattle.lists.specs.Digits.{decimal}
 use Rattle.listing.proofs.WritingLaws.{length-decimal}
 
 pub length-date : (d : Date) → length (dateText d) ≡ 10

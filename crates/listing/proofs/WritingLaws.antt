@@ -12,7 +12,8 @@ use lib.Dec.{ltb}
 use borrow.Author.Tests.{lt-ltb, le-ltb}
 use Rattle.lists.specs.Choose.{if_then_else_}
 use Rattle.listing.specs.Writing.{Wrote}
-use Rattle.listing.specs.Listing.{digits, digitsUpTo, decimal}
+use Rattle.listing.specs.Listing.{digits}
+use Rattle.lists.specs.Digits.{digitsUpTo, decimal}
 
 pub wrote-none : (b : List ℕ) (at : ℕ) → at ≤ length b → Wrote b at b at []
 wrote-none b at h = record { room = h; place = omega arith; bytes = sym (take-append-drop at b) }

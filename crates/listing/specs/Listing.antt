@@ -6,6 +6,7 @@ use lib.ListN.{length, take}
 use lib.Dec.{eqb, leb, ltb}
 use Rattle.lists.specs.Choose.{if_then_else_}
 use Rattle.lists.specs.Text.{codes}
+use Rattle.lists.specs.Digits.{digitsUpTo, decimal}
 use Rattle.calendar.specs.declared.Date.{Date}
 use Rattle.ledger.specs.declared.Kind.{Kind}
 use Rattle.ledger.specs.declared.Kind.the-variants.{Correction, Keep, Withdrawal}
@@ -21,15 +22,6 @@ use Rattle.listing.specs.declared.ListAnswer.the-variants.{Listed, TooSh
 unfoldable pub digits : ℕ → ℕ → List ℕ
 digits zero n = []
 digits (suc k) n = digits k (n / 10) ++ (48 + n % 10) ∷ []
-
--- the last k digits of n, with no zeros at the left
-unfoldable pub digitsUpTo : ℕ → ℕ → List ℕ
-digitsUpTo zero n = []
-digitsUpTo (suc k) n = (if ltb n 10 then [] else digitsUpTo k (n / 10)) ++ (48 + n % 10) ∷ []
-
--- a number of 32 bits has at most ten digits
-abbrev pub decimal : ℕ → List ℕ
-decimal n = digitsUpTo 10 n
 
 abbrev pub newline : List ℕ
 newline = 10 ∷ []

@@ -1,5 +1,5 @@
 use Rattle.listing.proofs.WritingLaws.{Writing, writing-start, writing-byte, writing-done, writing-length, decimal-last, decimal-more, no-decimal}
-use Rattle.listing.specs.Listing.{digitsUpTo, decimal}
+use Rattle.lists.specs.Digits.{digitsUpTo, decimal}
 use native.Mathlib.Omega.{arith}
 use Prim.Native.Nat.{_-_, _≤_}
 use lib.ListN.{length-set}
