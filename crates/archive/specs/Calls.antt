@@ -20,7 +20,7 @@ use Rattle.ledger.specs.Standing.{lastStanding, anyLine}
 use Rattle.ledger.specs.Ledger.{ledgerMalformed, ledgerFull, withLine}
 use Rattle.writer.specs.Frame.{heldBytes}
 use Rattle.writer.specs.Writer.{Made, frame, refused, writerFrame}
-use Rattle.archive.specs.Held.{heldCount, heldForm, heldPixels, isHeld}
+use Rattle.readback.specs.Held.{heldCount, heldForm, heldPixels, isHeld}
 
 -- what a call answers, with the held buffer and the ledger after it
 pub record Outcome : Type 0 where

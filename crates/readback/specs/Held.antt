@@ -3,7 +3,7 @@
 use Prim.Native.Nat.{ℕ}
 use mathlib.Core.Bool.{Bool, true, false, _&&_}
 use mathlib.Core.List.{List, [], _∷_}
-use lib.ListN.{length, take}
+use lib.ListN.{length}
 use lib.Dec.{eqb}
 use Rattle.lists.specs.Bytes.{zeros}
 use Rattle.layout.specs.declared.Width.{Width}
@@ -13,7 +13,6 @@ use Rattle.layout.specs.declared.Underflows.{Underflows}
 use Rattle.layout.specs.declared.Underflows.the-variants as H
 use Rattle.layout.specs.declared.Tables.{Tables}
 use Rattle.layout.specs.declared.Tables.the-variants as T
-use Rattle.layout.specs.declared.Form.{Form}
 use Rattle.layout.specs.declared.Header.{Header}
 use Rattle.layout.specs.Layout.{pixelCount}
 use Rattle.header.specs.declared.HeaderAnswer.{HeaderAnswer}

@@ -1,0 +1,13 @@
+pub mod Storing
+pub mod Tables
+pub mod Body
+pub mod Cells
+pub mod Counts
+pub mod Rewriting
+pub mod SameLines
+pub mod Sound
+pub mod HeaderBack
+pub mod Written
+pub mod Facts
+pub mod ReadBack
+pub mod HeldFrame

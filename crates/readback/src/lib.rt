@@ -1,0 +1,1 @@
+// The read-back theorem: proofs/ReadBack.antt. No code.
