@@ -11,3 +11,4 @@ pub mod Written
 pub mod Facts
 pub mod ReadBack
 pub mod HeldFrame
+pub mod Reading

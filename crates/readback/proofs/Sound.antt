@@ -324,7 +324,7 @@ numbers-large f end a b c e =
     let q : m * 512 ≡ end = cc in
     omega (arith, blocks-large listed m t)))))))
 
-lead-large : (f : Format) (end : ℕ) (bytes : List ℕ) → leadOf bytes ≡ L.Read f end → 5120 ≤ end
+pub lead-large : (f : Format) (end : ℕ) (bytes : List ℕ) → leadOf bytes ≡ L.Read f end → 5120 ≤ end
 unfolding leadOf
 lead-large f end bytes e =
     lead-short f end (ltb (length bytes) 240) R.HeaderTruncated _ e (λ e₁.
@@ -332,6 +332,19 @@ lead-large f end bytes e =
     lead-data f end bytes (placeOf bytes I.Version) _ e₂ (λ b e₃.
     lead-data f end bytes (placeOf bytes I.Hdrblks) _ e₃ (λ c e₄.
     numbers-large f end a b c e₄))))
+
+-- a header's image starts where the header ends
+pub body-start : (f : Format) (header : List ℕ) (h : Header) → bodyOf f header ≡ Accepted h → h .image .start ≡ length header
+unfolding bodyOf
+body-start f header h e =
+    on-counts h (countsIn f header) _ e (λ c c-is e₁.
+    on-widths h (widthsIn f header) _ e₁ (λ w w-is e₂.
+    on-value h (numberIn I.Nrows header) _ e₂ (λ rows rows-is e₃.
+    on-value h (numberIn I.Ncols header) _ e₃ (λ columns columns-is e₄.
+    on-data h header (placeOf header I.Linear) _ e₄ (λ start start-is e₅.
+    on-value h (baselineIn c header) _ e₅ (λ baseline baseline-is e₆.
+    on-scaled h (rangedOf f (length header) (numbers c w rows columns baseline)) (isLinear (take 72 (drop start header))) e₆ (λ linear e₇.
+    ranged f (length header) (numbers c w rows columns baseline) h e₇ .start-is)))))))
 
 -- what holds of bytes that begin with an accepted header of FORMAT 100
 pub record Opening (bytes : List ℕ) (h : Header) : Type 0 where
