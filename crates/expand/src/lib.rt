@@ -279,12 +279,24 @@ fn lift_block(pixels: &mut [u32], under: &[u8], c: StepC, u: Under) -> Under
     }
 }
 
-// The end of the block that starts at p: a block has 32 pixels.
-fn block_end(p: usize, n: usize) -> usize
+// How many pixels are a block: few in width 1, where most blocks then need no table; many in width 4, which is copied.
+fn block_size(w: Width) -> usize
+    ensures { λ r. ⌜ 1 ≤ r ⌝ }
+{
+    match w {
+        Width::One => 32,
+        Width::Two => 64,
+        Width::Four => 512,
+    }
+}
+
+// The end of the block that starts at p.
+fn block_end(w: Width, p: usize, n: usize) -> usize
     requires { ⌜ p < n ⌝ }
     ensures { λ r. ⌜ (p < r) × (r ≤ n) ⌝ }
 {
-    if 32 < n - p { p + 32 } else { n }
+    let size = block_size(w);
+    if size < n - p { p + size } else { n }
 }
 
 // The three steps of a block.
@@ -351,7 +363,7 @@ fn blocks(
     };
     let mut p = 0;
     while p < pixels.len() {
-        let e = block_end(p, pixels.len());
+        let e = block_end(w, p, pixels.len());
         let at = p * each;
         t = step_block(&image[at..], w, two, four, under, c, &mut pixels[p..e], t);
         p = e;
