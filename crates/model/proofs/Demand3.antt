@@ -1,0 +1,100 @@
+-- Demand 3: from an accepted opening and a ledger of no lines, every list of corrections, keep entries, withdrawals and purge
+-- questions gives what document 01's plain book gives, refused calls included.
+-- Assumes nothing.
+use mathlib.Core.Path.{_≡_, refl, sym, ap, _∙_}
+use mathlib.Core.List.{List, [], _∷_, _++_, map, reverse, reverse-cons, map-append}
+use Prim.Native.Nat.{ℕ, _*_, _≤_, _<_}
+use native.Mathlib.Omega.{arith}
+use lib.ListN.{length, getD, drop}
+use Rattle.layout.specs.declared.Form.{Form}
+use Rattle.writer.specs.declared.AskedForm.the-variants as F
+use Rattle.writer.specs.Frame.{heldBytes}
+use Rattle.writer.specs.Writer as Writer
+use Rattle.writer.specs.Writer.{writerFrame}
+use Rattle.ledger.specs.declared.Line.{Line}
+use Rattle.ledger.specs.Lines.{linesOf}
+use Rattle.ledger.specs.Standing.{standing}
+use Rattle.ledger.proofs.StandingLaws.{stack, standing-is}
+use Rattle.archive.specs.declared.OpenAnswer.the-variants.{Opened}
+use Rattle.archive.specs.Open.{openAnswer, openHeld}
+use Rattle.model.specs.Model.{Call, Ran, run, Entry, corrected, kept, Model, Opening, emptyModel, pixelsWith, modelPixels, modelStep, linesAdded, Seen, seenLine, seenEntry}
+use Rattle.model.specs.Run.{State, stateOf, step, openingOf, openedState, linesBytes, AllCounted}
+use Rattle.model.proofs.Held.{Fits}
+use Rattle.model.proofs.Appending.{ledgerWith, Holds, holds-none}
+use Rattle.model.proofs.Agree.{lineStack, Same, Runs, runs-agree}
+use Rattle.model.proofs.Opened.{Start, start}
+
+-- What holds after the calls cs, of what they gave and left on real bytes and of what the model gave and is. The model was fed o;
+-- the ledger's bytes at first were `before`.
+pub record Agreement (o : Opening) (before : List ℕ) (cs : List Call) (real : Ran State) (model : Ran Model) : Type 0 where
+  -- every answer, each refusal by its number, and every number of lines is the model's
+  pub replies : real .replies ≡ model .replies
+  pub lines : real .state .lines ≡ model .state .lines
+  -- the held buffer is the writer's frame, from the opened header and in the form opened in, for the model's pixels, and then zeros
+  pub frame : List ℕ
+  pub frame-is : writerFrame (o .header) (F.Listed (o .form)) (modelPixels o (model .state)) ≡ Writer.frame frame
+  pub frame-fits : length frame ≤ o .heldLength
+  pub held : real .state .held ≡ heldBytes (o .heldLength) frame
+  -- the ledger is the lines that the accepted calls added, in their order, and then its bytes at first
+  pub ledger : real .state .ledger ≡ linesBytes (linesAdded o cs emptyModel) ++ drop (model .state .lines * 16) before
+  pub read : linesOf (real .state .lines) (real .state .ledger) ≡ linesAdded o cs emptyModel
+  -- the lines that stand by the cancelling rule are the stack, oldest first, by kind, date, pixel and new count
+  pub stands : map seenLine (standing (linesOf (real .state .lines) (real .state .ledger))) ≡ map seenEntry (reverse (model .state .stack))
+
+-- the lines of a stack are seen as its entries
+seen-stack : (opened : List ℕ) (es : List Entry) → map seenLine (lineStack opened es) ≡ map seenEntry es
+unfolding lineStack
+seen-stack opened [] = refl
+seen-stack opened (corrected p c ∷ es) = rw (seen-stack opened es)
+seen-stack opened (kept d ∷ es) = rw (seen-stack opened es)
+
+map-reverse : {A B : Type 0} (g : A → B) (l : List A) → map g (reverse l) ≡ reverse (map g l)
+map-reverse g [] = refl
+map-reverse g (x ∷ l) = rw (reverse-cons x l, map-append, map-reverse g l, reverse-cons (g x) (map g l))
+
+ledger-with : (t : List ℕ) (ls : List Line) → ledgerWith t ls ≡ linesBytes ls ++ drop (length ls * 16) t
+unfolding ledgerWith
+ledger-with t ls = refl
+
+module _ (o : Opening) (t : List ℕ) (size : length t ≡ o .ledgerLength) {held : List ℕ} (s : Start o held) where
+  pub first : Same o t size (s .few) (s .given) (s .frame) [] []
+  unfolding stack lineStack pixelsWith
+  first = record { fits = s .fits; holds = holds-none t; top = refl; good = (s .pixels, record { frame = s .frame; fits = s .fits }) }
+
+  agreement : (cs : List Call) → AllCounted cs → Agreement o t cs (run step cs (stateOf (heldBytes (o .heldLength) (s .frame)) (ledgerWith t []) 0)) (run (modelStep o) cs emptyModel)
+  agreement cs counted =
+      let r = runs-agree o t size (s .few) (s .given) cs counted (s .frame) [] [] first in
+      let e : r .lines ≡ linesAdded o cs emptyModel = r .added in
+      let read : linesOf (length (r .lines)) (ledgerWith t (r .lines)) ≡ r .lines = r .same .holds .read in
+      record {
+        replies = r .replies;
+        lines = rw (r .state, r .model);
+        frame = r .frame;
+        frame-is = rw (r .model) (r .same .fits .made);
+        frame-fits = r .same .fits .room;
+        held = rw (r .state);
+        ledger = rw (r .state, r .model, ← e) (ledger-with t (r .lines));
+        read = rw (r .state, ← e) read;
+        stands = rw (r .state, r .model, read, standing-is, r .same .top, map-reverse, seen-stack, map-reverse);
+      }
+
+  pub at-first : stateOf held t 0 ≡ stateOf (heldBytes (o .heldLength) (s .frame)) (ledgerWith t []) 0
+  unfolding ledgerWith linesBytes
+  at-first = rw (s .held-is)
+
+  from : (x : State) → x ≡ stateOf (heldBytes (o .heldLength) (s .frame)) (ledgerWith t []) 0 → (cs : List Call) → AllCounted cs → Agreement o t cs (run step cs x) (run (modelStep o) cs emptyModel)
+  from x e cs counted = rw e (agreement cs counted)
+
+-- The theorem. Bytes are below 256 and counts have 32 bits, as the public functions take them.
+pub demand3 : (bytes pixels held ledger : List ℕ) (form : Form) (rows columns end n : ℕ)
+    → ((i : ℕ) → getD bytes i 0 < 256)
+    → openAnswer bytes pixels (F.Listed form) (length held) ≡ Opened rows columns end n
+    → (cs : List Call)
+    → AllCounted cs
+    → (let o = openingOf bytes pixels form held ledger in
+    Agreement o ledger cs (run step cs (openedState bytes pixels form held ledger)) (run (modelStep o) cs emptyModel))
+unfolding openingOf
+demand3 bytes pixels held ledger form rows columns end n byte opened cs counted =
+    let s = start bytes pixels held ledger form rows columns end byte n opened in
+    let o : Opening = openingOf bytes pixels form held ledger in
+    from o ledger refl s (openedState bytes pixels form held ledger) (at-first o ledger refl s) cs counted
