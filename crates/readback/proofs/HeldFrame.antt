@@ -47,11 +47,11 @@ named : (w : Width) (u : Underflow) (b n : ℕ) → namedBy w (underflowsFor u b
 named w U.None b n = refl
 named w (U.Subtracted e) b n = refl
 
-are : (held : List ℕ) → heldPixels held ≡ readPixels held (zeros (heldCount held))
+pub held-pixels-are : (held : List ℕ) → heldPixels held ≡ readPixels held (zeros (heldCount held))
 unfolding heldPixels
-are held = refl
+held-pixels-are held = refl
 
-held-is : (held : List ℕ) → isHeld held ≡ (isRead (readAnswer held (heldCount held)) && isFrame held (writerFrame held (heldForm held) (heldPixels held)))
+pub held-is : (held : List ℕ) → isHeld held ≡ (isRead (readAnswer held (heldCount held)) && isFrame held (writerFrame held (heldForm held) (heldPixels held)))
 unfolding isHeld
 held-is held = refl
 
@@ -75,7 +75,7 @@ module _ (given : List ℕ) (h : Header) (t : BinaryTables) (accepted : headerOf
   pub pixels-held : heldPixels (heldBytes n f) ≡ vs
   pixels-held =
       let k : ℕ = pixelCount (h .image) in
-      are (heldBytes n f)
+      held-pixels-are (heldBytes n f)
       ∙ ap (λ (m : ℕ). readPixels (heldBytes n f) (zeros m)) count-held
       ∙ pixels-back given h t accepted binary form vs all fits f written n (zeros k) (rw length-replicate (omega arith))
       ∙ ap (λ (l : List ℕ). vs ++ l) (drop-of-length-le (zeros k) {i = k} (rw length-replicate (omega arith)))

@@ -1,4 +1,6 @@
 pub mod Storing
+pub mod Reached
+pub mod HeldOpened
 pub mod Tables
 pub mod Body
 pub mod Cells
