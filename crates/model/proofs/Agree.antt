@@ -1,13 +1,13 @@
 -- Each call on real bytes gives what the model gives, and so does every list of calls.
 -- Assumes nothing.
 use mathlib.Core.Path.{_≡_, refl, sym, ap, _∙_}
-use mathlib.Core.Bool.{Bool, true, false, not, _&&_}
+use mathlib.Core.Bool.{Bool, true, false, not}
 use mathlib.Core.List.{List, [], _∷_, _++_, append-assoc, append-nil}
-use Prim.Native.Nat.{ℕ, zero, suc, _+_, _-_, _*_, _/_, _^_, _≤_, _<_}
+use Prim.Native.Nat.{ℕ, suc, _+_, _/_, _^_, _≤_, _<_}
 use native.Mathlib.Omega.{arith}
-use lib.ListN.{length, getD, set, drop, length-set}
+use lib.ListN.{length, getD, set, length-set}
 use lib.Seq.{getD-set-same, set-set, set-getD}
-use lib.Dec.{eqb, leb, ltb}
+use lib.Dec.{leb, ltb}
 use borrow.Author.Tests.{eq-eqb, ne-eqb, leb-false, lt-leb, le-ltb, ltb-false, not-false}
 use Rattle.lists.specs.Choose.{if_then_else_}
 use Rattle.refusal.specs.declared.Refusal.{Refusal}
@@ -26,17 +26,17 @@ use Rattle.ledger.specs.declared.LedgerAnswer.the-variants as L
 use Rattle.ledger.specs.declared.PurgeAnswer.the-variants as P
 use Rattle.ledger.specs.Lines.{linesOf, rightFor}
 use Rattle.ledger.specs.Standing.{withdraws, keeps, lastStanding, anyLine}
-use Rattle.ledger.specs.Ledger.{ledgerMalformed, withLine, keepLine, appendAnswer, appendBytes, keepAnswer, keepBytes, purgeBy, purgeAnswer}
+use Rattle.ledger.specs.Ledger.{ledgerMalformed, withLine, keepLine, keepAnswer, keepBytes, purgeBy, purgeAnswer}
 use Rattle.ledger.proofs.Packing.{Sized}
 use Rattle.ledger.proofs.StandingLaws.{stack, stack-more}
 use Rattle.ledger.proofs.Appending.{foundLines, firstWhere, last-is-top}
 use Rattle.readback.specs.Held.{heldCount, heldPixels, isHeld}
 use Rattle.archive.specs.Calls as C
-use Rattle.archive.specs.Calls.{Outcome, outcome, correctionLine, withdrawalLine, heldAs, changed, correctOutcome, correctionBack, keepBack, lineBack, lastBack, withdrawOutcome}
+use Rattle.archive.specs.Calls.{outcome, correctionLine, withdrawalLine, heldAs, changed, correctOutcome, correctionBack, lineBack, lastBack, withdrawOutcome}
 use Rattle.model.specs.Model.{Call, correct, keep, withdraw, mayPurge, Answer, accepted, refused, Reply, Step, Ran, run, Entry, corrected, kept, Model, Opening, pixelsWith, refuse, accept, correctedBy, askedOf, isFull, written, withdrawnFrom, modelStep, lineFor, addedBy, linesAdded}
 use Rattle.model.specs.Run.{State, stateOf, purged, after, afterOutcome, step, Counted, AllCounted}
 use Rattle.model.proofs.Held.{Pixels, pixels-set, Fits, Given, held-count, held-pixels, held-length, is-held, changed-is}
-use Rattle.model.proofs.Appending.{ledgerWith, one-more, ledger-more, Holds, holds-none, holds-more}
+use Rattle.model.proofs.Appending.{ledgerWith, one-more, ledger-more, Holds, holds-more}
 use Rattle.model.proofs.Dates.{keep-sized}
 
 -- the lines of the entries of a stack, top first; the old count is that of the pixels below

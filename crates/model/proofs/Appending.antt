@@ -1,13 +1,13 @@
 -- Lines written one after the other into a ledger: what is read there, and that the ledger stays well formed.
 -- Assumes nothing.
-use mathlib.Core.Path.{_≡_, refl, sym, ap, _∙_}
-use mathlib.Core.Bool.{Bool, true, false, not, _&&_}
+use mathlib.Core.Path.{_≡_, refl, _∙_}
+use mathlib.Core.Bool.{true, false, _&&_}
 use mathlib.Core.List.{List, [], _∷_, _++_, append-assoc, append-nil}
-use Prim.Native.Nat.{ℕ, zero, suc, _+_, _-_, _*_, _/_, _^_, _≤_, _<_}
+use Prim.Native.Nat.{ℕ, _+_, _*_, _/_, _<_}
 use native.Mathlib.Omega.{arith}
-use lib.ListN.{length, take, drop, length-append, length-drop}
-use lib.Seq.{take-at, drop-at, drop-drop, drop-append-add}
-use lib.Dec.{eqb, leb, ltb}
+use lib.ListN.{length, drop, length-append}
+use lib.Seq.{take-at, drop-drop, drop-append-add}
+use lib.Dec.{eqb}
 use borrow.Author.Tests.{le-ltb}
 use Rattle.ledger.specs.declared.Line.{Line}
 use Rattle.ledger.specs.Lines.{lineBytes, linesOf, rightFor}

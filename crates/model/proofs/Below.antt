@@ -1,9 +1,9 @@
 -- The pixels of an accepted FORMAT 100 frame have 32 bits.
 -- Assumes nothing.
 use mathlib.Core.Path.{_≡_, refl, sym, _∙_}
-use mathlib.Core.Bool.{Bool, true, false, not, _&&_, _||_}
+use mathlib.Core.Bool.{Bool, true, false, _||_}
 use mathlib.Core.List.{List, [], _∷_}
-use Prim.Native.Nat.{ℕ, zero, suc, _+_, _^_, _≤_, _<_}
+use Prim.Native.Nat.{ℕ, zero, suc, _+_, _≤_, _<_}
 use native.Mathlib.Omega.{arith}
 use lib.ListN.{getD, drop}
 use lib.Seq.{getD-drop}
@@ -14,7 +14,6 @@ use Rattle.lists.specs.Bytes.{little}
 use Rattle.lists.proofs.Below.{little-below}
 use Rattle.layout.specs.declared.Width.{Width}
 use Rattle.layout.specs.declared.Width.the-variants as W
-use Rattle.layout.specs.declared.EntryWidth.{EntryWidth}
 use Rattle.layout.specs.declared.EntryWidth.the-variants as E
 use Rattle.layout.specs.declared.Image.{Image}
 use Rattle.layout.specs.declared.Underflows.{Underflows}

@@ -1,10 +1,9 @@
 -- Demand 3: from an accepted opening and a ledger of no lines, every list of corrections, keep entries, withdrawals and purge
 -- questions gives what document 01's plain book gives, refused calls included.
 -- Assumes nothing.
-use mathlib.Core.Path.{_≡_, refl, sym, ap, _∙_}
+use mathlib.Core.Path.{_≡_, refl}
 use mathlib.Core.List.{List, [], _∷_, _++_, map, reverse, reverse-cons, map-append}
 use Prim.Native.Nat.{ℕ, _*_, _≤_, _<_}
-use native.Mathlib.Omega.{arith}
 use lib.ListN.{length, getD, drop}
 use Rattle.layout.specs.declared.Form.{Form}
 use Rattle.writer.specs.declared.AskedForm.the-variants as F
@@ -16,12 +15,11 @@ use Rattle.ledger.specs.Lines.{linesOf}
 use Rattle.ledger.specs.Standing.{standing}
 use Rattle.ledger.proofs.StandingLaws.{stack, standing-is}
 use Rattle.archive.specs.declared.OpenAnswer.the-variants.{Opened}
-use Rattle.archive.specs.Open.{openAnswer, openHeld}
-use Rattle.model.specs.Model.{Call, Ran, run, Entry, corrected, kept, Model, Opening, emptyModel, pixelsWith, modelPixels, modelStep, linesAdded, Seen, seenLine, seenEntry}
+use Rattle.archive.specs.Open.{openAnswer}
+use Rattle.model.specs.Model.{Call, Ran, run, Entry, corrected, kept, Model, Opening, emptyModel, pixelsWith, modelPixels, modelStep, linesAdded, seenLine, seenEntry}
 use Rattle.model.specs.Run.{State, stateOf, step, openingOf, openedState, linesBytes, AllCounted}
-use Rattle.model.proofs.Held.{Fits}
-use Rattle.model.proofs.Appending.{ledgerWith, Holds, holds-none}
-use Rattle.model.proofs.Agree.{lineStack, Same, Runs, runs-agree}
+use Rattle.model.proofs.Appending.{ledgerWith, holds-none}
+use Rattle.model.proofs.Agree.{lineStack, Same, runs-agree}
 use Rattle.model.proofs.Opened.{Start, start}
 
 -- What holds after the calls cs, of what they gave and left on real bytes and of what the model gave and is. The model was fed o;

@@ -4,10 +4,10 @@
 use mathlib.Core.Path.{_≡_, refl, sym, ap, subst, _∙_}
 use mathlib.Core.Bool.{Bool, true, false, not, _&&_, _||_}
 use mathlib.Core.List.{List, [], _∷_, _++_, reverse, reverse-cons}
-use Prim.Native.Nat.{ℕ, zero, suc, _/_, _^_, _≤_, _<_}
+use Prim.Native.Nat.{ℕ, suc, _^_, _≤_, _<_}
 use native.Mathlib.Omega.{arith}
 use lib.ListN.{length, getD, length-reverse}
-use lib.Dec.{eqb, leb}
+use lib.Dec.{eqb}
 use borrow.Author.Tests.{ne-eqb}
 use Rattle.lists.specs.Choose.{if_then_else_}
 use Rattle.refusal.specs.declared.Refusal.the-variants as R
@@ -22,7 +22,7 @@ use Rattle.ledger.specs.Ledger.{keepLine, ledgerFull}
 use Rattle.ledger.proofs.StandingLaws.{standing-is}
 use Rattle.archive.specs.declared.OpenAnswer.the-variants.{Opened}
 use Rattle.archive.specs.Open.{openAnswer}
-use Rattle.model.specs.Model.{Call, withdraw, mayPurge, Answer, accepted, refused, Reply, Step, Model, modelStep, run, Entry, corrected, kept, Opening, isFull, refuse, accept, askedOf, withdrawnFrom}
+use Rattle.model.specs.Model.{Call, withdraw, mayPurge, accepted, refused, Reply, Step, Model, modelStep, run, Entry, corrected, kept, Opening, isFull, refuse, accept, askedOf, withdrawnFrom}
 use Rattle.model.specs.Run.{State, step, openingOf, openedState, Counted, AllCounted, isAccepted, lastKeepBefore}
 use Rattle.model.proofs.Held.{Given}
 use Rattle.model.proofs.Appending.{ledgerWith}

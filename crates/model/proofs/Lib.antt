@@ -6,3 +6,5 @@ pub mod Below
 pub mod Opened
 pub mod Demand3
 pub mod Exactly
+pub mod Refusals
+pub mod Prefix

@@ -1,12 +1,12 @@
 -- What an accepted opening gives: an accepted header of FORMAT 100, N pixels of 32 bits, and the writer's frame in the held buffer.
 -- Assumes nothing.
 use mathlib.Core.Path.{_≡_, refl, sym, ap, _∙_}
-use mathlib.Core.Bool.{Bool, true, false, not, _&&_}
-use mathlib.Core.List.{List, [], _∷_, _++_}
-use Prim.Native.Nat.{ℕ, _+_, _*_, _^_, _≤_, _<_}
+use mathlib.Core.Bool.{Bool, true, false}
+use mathlib.Core.List.{List, [], _++_}
+use Prim.Native.Nat.{ℕ, _^_, _≤_, _<_}
 use native.Mathlib.Nat.{mul-le-mul}
 use native.Mathlib.Omega.{arith}
-use lib.ListN.{length, take, drop, getD, length-append, length-drop}
+use lib.ListN.{length, take, drop, getD, length-append}
 use lib.Seq.{take-at, take-take, length-take-le}
 use lib.Dec.{leb, ltb}
 use borrow.Author.Tests.{ltb-false, le-ltb, leb-true}
@@ -20,10 +20,9 @@ use Rattle.layout.specs.declared.Tables.{Tables}
 use Rattle.layout.specs.declared.Tables.the-variants as T
 use Rattle.layout.specs.declared.Header.{Header}
 use Rattle.layout.specs.Layout.{pixelCount, binaryEnd}
-use Rattle.header.specs.declared.HeaderAnswer.{HeaderAnswer}
 use Rattle.header.specs.declared.HeaderAnswer.the-variants as A
 use Rattle.header.specs.Header.{headerOf}
-use Rattle.expand.specs.Expand.{paddingZero, tablesExhausted, baselineTooLarge, framePixels, firstPixels, binaryPixels}
+use Rattle.expand.specs.Expand.{framePixels, firstPixels, binaryPixels}
 use Rattle.expand.proofs.Facts as binary
 use Rattle.reader.specs.declared.ReadAnswer.{ReadAnswer}
 use Rattle.reader.specs.declared.ReadAnswer.the-variants as Q
@@ -33,12 +32,10 @@ use Rattle.writer.specs.declared.AskedForm.the-variants as F
 use Rattle.writer.specs.declared.WriteAnswer.{WriteAnswer}
 use Rattle.writer.specs.declared.WriteAnswer.the-variants as W
 use Rattle.writer.specs.Frame.{heldBytes}
-use Rattle.writer.specs.Writer.{Made, frame, refused, madeAs, madeFrom, madeBy, writerFrame, answerOf, outputOf, writeAnswer, writeBytes}
-use Rattle.readback.specs.Held.{countBy}
+use Rattle.writer.specs.Writer.{Made, frame, refused, madeAs, madeBy, writerFrame, answerOf, outputOf, writeAnswer, writeBytes}
 use Rattle.readback.proofs.Sound.{opening}
 use Rattle.readback.proofs.Reading as reading
-use Rattle.archive.specs.declared.OpenAnswer.{OpenAnswer}
-use Rattle.archive.specs.declared.OpenAnswer.the-variants.{Opened, NotRead, NotWritten}
+use Rattle.archive.specs.declared.OpenAnswer.the-variants.{Opened}
 use Rattle.archive.specs.Open.{openBy, heldBy, openAnswer, openHeld}
 use Rattle.model.specs.Model.{Opening}
 use Rattle.model.specs.Run.{openingOf}
@@ -65,7 +62,7 @@ written-room room n (frame f) q = go (ltb room (length f)) refl q
     go true e p = let z : _≡_ {A = ℕ} 0 1 = cc in absurd (omega arith)
     go false e p = record { bytes = f; is = refl; fits = ltb-false room (length f) e }
 
-answer-is : (given : List ℕ) (asked : AskedForm) (pixels : List ℕ) (room : ℕ) → writeAnswer given asked pixels room ≡ answerOf room (writerFrame given asked pixels)
+pub answer-is : (given : List ℕ) (asked : AskedForm) (pixels : List ℕ) (room : ℕ) → writeAnswer given asked pixels room ≡ answerOf room (writerFrame given asked pixels)
 unfolding writeAnswer
 answer-is given asked pixels room = refl
 

@@ -23,7 +23,7 @@ use Rattle.ledger.specs.Standing.{keeps}
 use Rattle.ledger.specs.Ledger.{keepAnswer, keepBytes, purgeAnswer}
 use Rattle.archive.specs.Open.{openHeld}
 use Rattle.archive.specs.Calls.{Outcome, correctOutcome, withdrawOutcome}
-use Rattle.model.specs.Model.{Call, correct, keep, withdraw, mayPurge, Answer, accepted, refused, Reply, Step, Opening}
+use Rattle.model.specs.Model.{Call, correct, keep, withdraw, mayPurge, Answer, accepted, refused, Step, Opening}
 
 -- the held buffer and the ledger as the last call left them, and the number of lines that it gave
 pub record State : Type 0 where
