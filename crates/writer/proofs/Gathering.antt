@@ -7,10 +7,14 @@ use Prim.Native.Nat.{ℕ, zero, suc, _+_, _-_, _≤_, _<_}
 use native.Mathlib.Nat.{add-zero, le-of-suc-le-suc, not-suc-le-zero}
 use native.Mathlib.Numerals.{add-one}
 use native.Mathlib.Omega.{arith}
-use lib.ListN.{length, take, drop, getD, set, length-append, length-set, length-map}
-use lib.Seq.{take-suc, take-all, take-suc-set, take-set-le, length-take-le}
+use lib.ListN.{length, take, drop, getD, set, length-append, length-set, length-take, length-drop}
+use lib.Seq.{take-suc, take-all, take-suc-set, take-set-le, length-take-le, take-add}
 use Rattle.lists.specs.Choose.{if_then_else_}
-use Rattle.writer.specs.Storing.{only}
+use lib.Dec.{leb}
+use Rattle.layout.specs.declared.Width.the-variants as W
+use Rattle.writer.specs.Storing.{only, isUnderflow, storedValue}
+use Rattle.writer.specs.Blocks.{countsOf, countsMore}
+use Rattle.writer.specs.declared.Counts.{Counts}
 
 pub only-append : (p : ℕ → Bool) (xs ys : List ℕ) → only p (xs ++ ys) ≡ only p xs ++ only p ys
 unfolding only
@@ -100,3 +104,51 @@ pub map-at : (f : ℕ → ℕ) (xs : List ℕ) (i : ℕ) → i < length xs → g
 map-at f [] i h = absurd (not-suc-le-zero h)
 map-at f (x ∷ xs) zero h = refl
 map-at f (x ∷ xs) (suc i) h = map-at f xs i (le-of-suc-le-suc h)
+
+pub map-four : (xs : List ℕ) → map (storedValue W.Four) xs ≡ xs
+map-four [] = refl
+map-four (x ∷ xs) = ap (λ (l : List ℕ). x ∷ l) (map-four xs)
+
+pub take-split : (p e : ℕ) (l : List ℕ) → p ≤ e → take e l ≡ take p l ++ take (e - p) (drop p l)
+take-split p e l h = let n : p + (e - p) ≡ e = omega arith in ap (λ (q : ℕ). take q l) (sym n) ∙ take-add p (e - p) l
+
+-- The loop that counts the blocks.
+pub record Blocks (base : ℕ) (pixels : List ℕ) (c : Counts) (p : ℕ) : Type 0 where
+  pub upto : p ≤ length pixels
+  pub is : c ≡ countsOf base (take p pixels)
+
+pub blocks-start : (base : ℕ) (pixels : List ℕ) → Blocks base pixels (record { under = 0; two = 0; four = 0 }) 0
+unfolding countsOf
+blocks-start base pixels = record { upto = omega arith; is = refl }
+
+counts-append : (base : ℕ) (xs ys : List ℕ) → countsMore (countsOf base xs) (countsOf base ys) ≡ countsOf base (xs ++ ys)
+unfolding countsMore countsOf
+counts-append base xs ys = rw (only-append (isUnderflow base), only-append (leb (base + 255)), only-append (leb (base + 65535)), length-append, length-append, length-append)
+
+pub blocks-more : {base : ℕ} {pixels : List ℕ} {c d r : Counts} {p : ℕ} (e : ℕ) → Blocks base pixels c p → p ≤ e → e ≤ length pixels
+    → d ≡ countsOf base (take (e - p) (drop p pixels)) → r ≡ countsMore c d → Blocks base pixels r e
+blocks-more {base} {pixels} {c} {d} {r} {p} e f h k q s = record {
+  upto = k;
+  is = s ∙ rw (f .is, q, counts-append, ← take-split p e pixels h);
+}
+
+-- no count is above the number of pixels
+pub record Few (n : ℕ) (c : Counts) : Type 0 where
+  pub under : c .under ≤ n
+  pub two : c .two ≤ n
+  pub four : c .four ≤ n
+
+pub counts-few : (base : ℕ) (xs : List ℕ) (c : Counts) → c ≡ countsOf base xs → Few (length xs) c
+unfolding countsOf
+counts-few base xs c e = rw e (record { under = only-le _ xs; two = only-le _ xs; four = only-le _ xs })
+
+pub blocks-few : {base : ℕ} {pixels : List ℕ} {c : Counts} {p : ℕ} → Blocks base pixels c p → Few p c
+blocks-few {base} {pixels} {c} {p} f = rw (length-take-le p pixels (f .upto)) at (counts-few base (take p pixels) c (f .is))
+
+pub block-few : (base : ℕ) (pixels : List ℕ) (c : Counts) (p e : ℕ) → p ≤ e → e ≤ length pixels → c ≡ countsOf base (take (e - p) (drop p pixels)) → Few (e - p) c
+block-few base pixels c p e h k q =
+    let l : length (take (e - p) (drop p pixels)) ≡ e - p = simp (length-take, length-drop) (omega arith) in
+    rw l at (counts-few base (take (e - p) (drop p pixels)) c q)
+
+pub blocks-done : {base : ℕ} {pixels : List ℕ} {c : Counts} {p : ℕ} → Blocks base pixels c p → length pixels ≤ p → c ≡ countsOf base pixels
+blocks-done {base} {pixels} {c} {p} f h = rw (take-all p pixels h) at (f .is)

@@ -1,11 +1,13 @@
 -- What the private functions say of themselves: pixels lowered and capped, and bytes put over a buffer. No public contract cites this file.
-use Prim.Native.Nat.{ℕ, _+_, _-_, _*_}
+use Prim.Native.Nat.{ℕ, _+_, _-_, _*_, _≤_}
 use mathlib.Core.Path.{_≡_}
 use mathlib.Core.Bool.{Bool, true, false}
 use mathlib.Core.List.{List, [], _∷_, _++_, map}
 use lib.ListN.{length, take, drop}
 use lib.Dec.{leb}
 use Rattle.lists.specs.Choose.{if_then_else_}
+use Rattle.layout.specs.declared.Underflow.{Underflow}
+use Rattle.layout.specs.declared.Underflow.the-variants as U
 use Rattle.layout.specs.declared.Form.{Form}
 use Rattle.layout.specs.Form.{widthBytes}
 use Rattle.table.specs.Writing.{tableOf}
@@ -34,4 +36,38 @@ countsOf base vs = record {
   under = length (only (isUnderflow base) vs);
   two = length (only (leb (base + 255)) vs);
   four = length (only (leb (base + 65535)) vs);
+}
+
+-- counts so far, and those of a block
+unfoldable pub countsMore : Counts → Counts → Counts
+countsMore c d = record { under = c .under + d .under; two = c .two + d .two; four = c .four + d .four }
+
+-- kind none has the baseline 0
+abbrev pub usedBase : Underflow → ℕ → ℕ
+usedBase U.None base = 0
+usedBase (U.Subtracted e) base = base
+
+-- the parts of a block, or of all pixels, fit from the places on in a buffer of n bytes
+pub record Room (form : Form) (s : Stored) (at : Places) (n : ℕ) : Type 0 where
+  pub image : at .image + length (s .image) * widthBytes (form .width) ≤ n
+  pub under : at .under + length (s .under) * underflowBytes (form .underflow) ≤ n
+  pub two : at .two + length (s .two) * 2 ≤ n
+  pub four : at .four + length (s .four) * 4 ≤ n
+
+-- a block's parts, each put at its place
+unfoldable pub putBlock : Form → Stored → Places → List ℕ → List ℕ
+unfolding over tableOf
+putBlock form s at d =
+    over (at .image) (tableOf (widthBytes (form .width)) (s .image))
+    (over (at .four) (tableOf 4 (s .four))
+    (over (at .two) (tableOf 2 (s .two))
+    (over (at .under) (tableOf (underflowBytes (form .underflow)) (s .under)) d)))
+
+-- the places behind a block's parts
+unfoldable pub placesAfter : Form → Stored → Places → Places
+placesAfter form s at = record {
+  image = at .image + length (s .image) * widthBytes (form .width);
+  under = at .under + length (s .under) * underflowBytes (form .underflow);
+  two = at .two + length (s .two) * 2;
+  four = at .four + length (s .four) * 4;
 }

@@ -6,9 +6,15 @@ ghost use Prim.Native.Nat.{_+_, _*_, _^_, _<_, _≤_};
 ghost use lib.ListN.{length, take, drop, replicate};
 ghost use lib.Dec.{leb};
 ghost use Rattle.lists.specs.Choose.{if_then_else_};
-ghost use Rattle.writer.specs.Storing.{only, isUnderflow};
-ghost use Rattle.writer.specs.Blocks.{less, capped, over, countsOf};
+ghost use Rattle.layout.specs.Form.{widthBytes};
+ghost use Rattle.table.specs.Writing.{tableOf};
+ghost use Rattle.writer.specs.Storing.{only, isUnderflow, underEntries, twoEntries, fourEntries, storedValue, atMost65535, storedFor};
+ghost use Rattle.writer.specs.Frame.{underflowBytes};
+ghost use Rattle.writer.specs.Blocks.{less, capped, over, countsOf, countsMore, usedBase, Room, putBlock, placesAfter};
+use layout::EntryWidth;
 use layout::Form;
+use layout::Underflow;
+use layout::Width;
 use refusal::Refusal;
 
 // The form asked for, or that no listed form was.
@@ -155,5 +161,185 @@ fn copy(s: &[u8], out: &mut [u8])
     while i < s.len() {
         out[i] = s[i];
         i += 1;
+    }
+}
+
+// The end of the block that starts at p: a block has 64 pixels.
+fn block_end(p: usize, n: usize) -> usize
+    requires { ⌜ p < n ⌝ }
+    ensures { λ r. ⌜ (p < r) × (r ≤ n) × (r ≤ p + 64) ⌝ }
+{
+    if 64 < n - p { p + 64 } else { n }
+}
+
+// The counts of a block.
+fn count_block(block: &[u32], base: u32) -> Counts
+    requires { ⌜ (length (now block) < 2 ^ 32) × (base ≤ 65535) ⌝ }
+    ensures { λ r. ⌜ r ≡ countsOf base (now (block .entry)) ⌝ }
+{
+    let under = count_at_most(block, base);
+    let two = count_from(block, base + 255);
+    let four = count_from(block, base + 65535);
+    Counts { under, two, four }
+}
+
+fn add_counts(c: Counts, d: Counts) -> Counts
+    requires { ⌜ (c .under + d .under < 2 ^ 32) × (c .two + d .two < 2 ^ 32) × (c .four + d .four < 2 ^ 32) ⌝ }
+    ensures { λ r. ⌜ r ≡ countsMore c d ⌝ }
+{
+    Counts {
+        under: c.under + d.under,
+        two: c.two + d.two,
+        four: c.four + d.four,
+    }
+}
+
+// The counts of all pixels, in one pass.
+fn count_blocks(pixels: &[u32], base: u32) -> Counts
+    requires { ⌜ (length (now pixels) < 2 ^ 32) × (base ≤ 65535) ⌝ }
+    ensures { λ r. ⌜ r ≡ countsOf base (now (pixels .entry)) ⌝ }
+{
+    let mut c = Counts {
+        under: 0,
+        two: 0,
+        four: 0,
+    };
+    let mut p = 0;
+    while p < pixels.len() {
+        let e = block_end(p, pixels.len());
+        let d = count_block(&pixels[p..e], base);
+        c = add_counts(c, d);
+        p = e;
+    }
+    c
+}
+
+// The values as entries in the bytes of out from `at` on.
+fn put(values: &[u32], w: Width, out: &mut [u8], at: usize)
+    requires { ⌜ at + length (now values) * widthBytes w ≤ length (now out) ⌝ }
+    ensures { λ _. ⌜ now (out .exit) ≡ over at (tableOf (widthBytes w) (now (values .entry))) (now (out .entry)) ⌝ }
+{
+    let each = layout::width_bytes(w);
+    let e = at + values.len() * each;
+    table::store(values, w, &mut out[at..e]);
+}
+
+// The underflow entries of a block, gathered in `found`. The answer: where the next go.
+fn put_underflows(
+    block: &[u32],
+    u: Underflow,
+    base: u32,
+    found: &mut [u32],
+    out: &mut [u8],
+    at: usize,
+) -> usize
+    requires { ⌜ (length (now block) ≤ 64) × (length (now found) ≡ 64) × (at + length (underEntries u base (now block)) * underflowBytes u ≤ length (now out)) ⌝ }
+    ensures { λ r. ⌜ r ≡ at + length (underEntries u base (now (block .entry))) * underflowBytes u ⌝ }
+    ensures { λ _. ⌜ now (out .exit) ≡ over at (tableOf (underflowBytes u) (underEntries u base (now (block .entry)))) (now (out .entry)) ⌝ }
+{
+    let Underflow::Subtracted(entry) = u else {
+        return at;
+    };
+    if count_at_most(block, base) == 0 {
+        return at;
+    }
+    let k = gather_at_most(block, base, found);
+    match entry {
+        EntryWidth::One => {
+            put(&found[..k], Width::One, out, at);
+            at + k
+        }
+        EntryWidth::Two => {
+            put(&found[..k], Width::Two, out, at);
+            at + k * 2
+        }
+    }
+}
+
+// Two-byte entries, at most 65535 each.
+fn put_capped(values: &mut [u32], out: &mut [u8], at: usize)
+    requires { ⌜ at + length (now values) * 2 ≤ length (now out) ⌝ }
+    ensures { λ _. ⌜ now (out .exit) ≡ over at (tableOf 2 (map atMost65535 (now (values .entry)))) (now (out .entry)) ⌝ }
+{
+    cap(values, 65535);
+    put(values, Width::Two, out, at);
+}
+
+// The two-byte entries of a block of width 1.
+fn put_two_byte(low: &[u32], found: &mut [u32], out: &mut [u8], at: usize) -> usize
+    requires { ⌜ (length (now low) ≤ 64) × (length (now found) ≡ 64) × (at + length (map atMost65535 (only (leb 255) (now low))) * 2 ≤ length (now out)) ⌝ }
+    ensures { λ r. ⌜ r ≡ at + length (map atMost65535 (only (leb 255) (now (low .entry)))) * 2 ⌝ }
+    ensures { λ _. ⌜ now (out .exit) ≡ over at (tableOf 2 (map atMost65535 (only (leb 255) (now (low .entry))))) (now (out .entry)) ⌝ }
+{
+    if count_from(low, 255) == 0 {
+        return at;
+    }
+    let k = gather_from(low, 255, found);
+    put_capped(&mut found[..k], out, at);
+    at + k * 2
+}
+
+// The two-byte entries of a block.
+fn put_twos(low: &[u32], w: Width, found: &mut [u32], out: &mut [u8], at: usize) -> usize
+    requires { ⌜ (length (now low) ≤ 64) × (length (now found) ≡ 64) × (at + length (twoEntries w (now low)) * 2 ≤ length (now out)) ⌝ }
+    ensures { λ r. ⌜ r ≡ at + length (twoEntries w (now (low .entry))) * 2 ⌝ }
+    ensures { λ _. ⌜ now (out .exit) ≡ over at (tableOf 2 (twoEntries w (now (low .entry)))) (now (out .entry)) ⌝ }
+{
+    match w {
+        Width::One => put_two_byte(low, found, out, at),
+        Width::Two => at,
+        Width::Four => at,
+    }
+}
+
+// The four-byte entries of a block of width 1 or 2.
+fn put_four_byte(low: &[u32], found: &mut [u32], out: &mut [u8], at: usize) -> usize
+    requires { ⌜ (length (now low) ≤ 64) × (length (now found) ≡ 64) × (at + length (only (leb 65535) (now low)) * 4 ≤ length (now out)) ⌝ }
+    ensures { λ r. ⌜ r ≡ at + length (only (leb 65535) (now (low .entry))) * 4 ⌝ }
+    ensures { λ _. ⌜ now (out .exit) ≡ over at (tableOf 4 (only (leb 65535) (now (low .entry)))) (now (out .entry)) ⌝ }
+{
+    if count_from(low, 65535) == 0 {
+        return at;
+    }
+    let k = gather_from(low, 65535, found);
+    put(&found[..k], Width::Four, out, at);
+    at + k * 4
+}
+
+// The four-byte entries of a block.
+fn put_fours(low: &[u32], w: Width, found: &mut [u32], out: &mut [u8], at: usize) -> usize
+    requires { ⌜ (length (now low) ≤ 64) × (length (now found) ≡ 64) × (at + length (fourEntries w (now low)) * 4 ≤ length (now out)) ⌝ }
+    ensures { λ r. ⌜ r ≡ at + length (fourEntries w (now (low .entry))) * 4 ⌝ }
+    ensures { λ _. ⌜ now (out .exit) ≡ over at (tableOf 4 (fourEntries w (now (low .entry)))) (now (out .entry)) ⌝ }
+{
+    match w {
+        Width::One => put_four_byte(low, found, out, at),
+        Width::Two => put_four_byte(low, found, out, at),
+        Width::Four => at,
+    }
+}
+
+// The stored values of a block.
+fn put_image(low: &mut [u32], w: Width, out: &mut [u8], at: usize) -> usize
+    requires { ⌜ at + length (now low) * widthBytes w ≤ length (now out) ⌝ }
+    ensures { λ r. ⌜ r ≡ at + length (now (low .entry)) * widthBytes w ⌝ }
+    ensures { λ _. ⌜ now (out .exit) ≡ over at (tableOf (widthBytes w) (map (storedValue w) (now (low .entry)))) (now (out .entry)) ⌝ }
+{
+    let n = low.len();
+    match w {
+        Width::One => {
+            cap(low, 255);
+            put(low, Width::One, out, at);
+            at + n
+        }
+        Width::Two => {
+            cap(low, 65535);
+            put(low, Width::Two, out, at);
+            at + n * 2
+        }
+        Width::Four => {
+            put(low, Width::Four, out, at);
+            at + n * 4
+        }
     }
 }
