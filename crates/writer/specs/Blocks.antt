@@ -10,6 +10,7 @@ use Rattle.layout.specs.declared.Underflow.{Underflow}
 use Rattle.layout.specs.declared.Underflow.the-variants as U
 use Rattle.layout.specs.declared.Form.{Form}
 use Rattle.layout.specs.Form.{widthBytes}
+use Rattle.layout.specs.Layout.{tableBytes}
 use Rattle.table.specs.Writing.{tableOf}
 use Rattle.expand.specs.Steps.{Stored}
 use Rattle.writer.specs.Storing.{only, isUnderflow, storedFor}
@@ -70,4 +71,16 @@ placesAfter form s at = record {
   under = at .under + length (s .under) * underflowBytes (form .underflow);
   two = at .two + length (s .two) * 2;
   four = at .four + length (s .four) * 4;
+}
+
+-- where the parts of a frame start, behind a header of so many bytes
+unfoldable pub placesFor : ℕ → Form → Stored → Places
+unfolding tableBytes
+placesFor start form s = record {
+  image = start;
+  under = start + length (s .image) * widthBytes (form .width);
+  two = start + length (s .image) * widthBytes (form .width) + tableBytes (underflowBytes (form .underflow)) (length (s .under));
+  four =
+      start + length (s .image) * widthBytes (form .width) + tableBytes (underflowBytes (form .underflow)) (length (s .under))
+      + tableBytes 2 (length (s .two));
 }

@@ -2,15 +2,16 @@
 ghost use mathlib.Core.Path.{_≡_};
 ghost use mathlib.Core.Bool.{true, false};
 ghost use mathlib.Core.List.{[], map, _++_};
-ghost use Prim.Native.Nat.{_+_, _*_, _^_, _<_, _≤_};
+ghost use Prim.Native.Nat.{_+_, _-_, _*_, _^_, _<_, _≤_};
 ghost use lib.ListN.{length, take, drop, replicate};
 ghost use lib.Dec.{leb};
 ghost use Rattle.lists.specs.Choose.{if_then_else_};
+ghost use Rattle.lists.specs.Bytes.{zeros};
 ghost use Rattle.layout.specs.Form.{widthBytes};
 ghost use Rattle.table.specs.Writing.{tableOf};
 ghost use Rattle.writer.specs.Storing.{only, isUnderflow, underEntries, twoEntries, fourEntries, storedValue, atMost65535, storedFor};
-ghost use Rattle.writer.specs.Frame.{underflowBytes};
-ghost use Rattle.writer.specs.Blocks.{less, capped, over, countsOf, countsMore, usedBase, Room, putBlock, placesAfter};
+ghost use Rattle.writer.specs.Frame.{underflowBytes, bodyBytes, frameLength};
+ghost use Rattle.writer.specs.Blocks.{less, capped, over, countsOf, countsMore, usedBase, Room, putBlock, placesAfter, placesFor};
 use layout::EntryWidth;
 use layout::Form;
 use layout::Underflow;
@@ -341,5 +342,57 @@ fn put_image(low: &mut [u32], w: Width, out: &mut [u8], at: usize) -> usize
             put(low, Width::Four, out, at);
             at + n * 4
         }
+    }
+}
+
+// A block: its entries and its stored values, each at its place. `low` and `found` are room for its numbers.
+fn store_block(
+    block: &[u32],
+    form: Form,
+    base: u32,
+    low: &mut [u32],
+    found: &mut [u32],
+    out: &mut [u8],
+    at: Places,
+) -> Places
+    requires { ⌜ (length (now block) ≤ 64) × (length (now block) ≡ length (now low)) × (length (now found) ≡ 64) × (base ≡ usedBase (form .underflow) base) × Room form (storedFor form base (now block)) at (length (now out)) ⌝ }
+    ensures { λ r. ⌜ r ≡ placesAfter form (storedFor form base (now (block .entry))) at ⌝ }
+    ensures { λ _. ⌜ now (out .exit) ≡ putBlock form (storedFor form base (now (block .entry))) at (now (out .entry)) ⌝ }
+{
+    let u = form.underflow;
+    let w = form.width;
+    let under = put_underflows(block, u, base, found, out, at.under);
+    lower(block, base, low);
+    let two = put_twos(low, w, found, out, at.two);
+    let four = put_fours(low, w, found, out, at.four);
+    let image = put_image(low, w, out, at.image);
+    Places {
+        image,
+        under,
+        two,
+        four,
+    }
+}
+
+// All blocks, in a buffer that is zero behind the image.
+fn store_blocks(
+    pixels: &[u32],
+    form: Form,
+    base: u32,
+    low: &mut [u32],
+    found: &mut [u32],
+    out: &mut [u8],
+    at: Places,
+)
+    requires { ⌜ (length (now low) ≡ 64) × (length (now found) ≡ 64) × (base ≡ usedBase (form .underflow) base) × (at ≡ placesFor (at .image) form (storedFor form base (now pixels))) × (frameLength (at .image) form (storedFor form base (now pixels)) ≤ length (now out)) × (drop (at .image + length (storedFor form base (now pixels) .image) * widthBytes (form .width)) (now out) ≡ zeros (length (now out) - (at .image + length (storedFor form base (now pixels) .image) * widthBytes (form .width)))) ⌝ }
+    ensures { λ _. ⌜ now (out .exit) ≡ take (at .image) (now (out .entry)) ++ (bodyBytes form (storedFor form base (now (pixels .entry))) ++ zeros (length (now (out .entry)) - frameLength (at .image) form (storedFor form base (now (pixels .entry))))) ⌝ }
+{
+    let mut t = at;
+    let mut p = 0;
+    while p < pixels.len() {
+        let e = block_end(p, pixels.len());
+        let n = e - p;
+        t = store_block(&pixels[p..e], form, base, &mut low[..n], found, out, t);
+        p = e;
     }
 }
