@@ -35,7 +35,7 @@ only-le p (x ∷ xs) = go (p x) (only-le p xs)
     go true h = omega arith
     go false h = omega arith
 
-only-more : (p : ℕ → Bool) (xs : List ℕ) (i : ℕ) → i < length xs → only p (take (i + 1) xs) ≡ only p (take i xs) ++ if_then_else_ (p (getD xs i 0)) (getD xs i 0 ∷ []) []
+pub only-more : (p : ℕ → Bool) (xs : List ℕ) (i : ℕ) → i < length xs → only p (take (i + 1) xs) ≡ only p (take i xs) ++ if_then_else_ (p (getD xs i 0)) (getD xs i 0 ∷ []) []
 unfolding only
 only-more p xs i h = rw (add-one, take-suc xs i 0 h, only-append)
 

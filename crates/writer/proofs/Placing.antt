@@ -24,7 +24,7 @@ use Rattle.table.proofs.Storing.{length-table, table-append}
 use Rattle.expand.specs.Steps.{Stored}
 use Rattle.writer.specs.Storing.{only, isUnderflow, lowered, loweredAll, underEntries, twoEntries, fourEntries, atMost65535, storedValue, storedFor}
 use Rattle.writer.specs.Frame.{underflowBytes, bodyBytes, frameLength}
-use Rattle.writer.specs.Blocks.{over, less, usedBase, putBlock, placesAfter, placesFor, Room}
+use Rattle.writer.specs.Blocks.{over, less, usedBase, putBlock, placesAfter, placesBy, placesFor, Room}
 use Rattle.writer.specs.declared.Places.{Places}
 use Rattle.writer.proofs.Gathering.{only-append, take-split}
 use Rattle.writer.proofs.Over.{over-skip, over-first, over-front, front, length-front}
@@ -250,7 +250,7 @@ zeros-split m a b c d e = rw (e, replicate-append-replicate c d, replicate-appen
 pub placed-start : (form : Form) (base : ℕ) (s : Stored) (at : Places) (out : List ℕ) → at ≡ placesFor (at .image) form s → frameLength (at .image) form s ≤ length out
     → drop (at .image + length (s .image) * widthBytes (form .width)) out ≡ zeros (length out - (at .image + length (s .image) * widthBytes (form .width)))
     → Placed form (regionsOf (at .image) form s out) (storedFor form base []) at out
-unfolding regionsOf placesFor frameLength none tableOf
+unfolding regionsOf placesBy frameLength none tableOf
 placed-start form base s at out e h z =
     let start = at .image in
     let n = length (s .image) * widthBytes (form .width) in

@@ -6,6 +6,9 @@ use mathlib.Core.List.{List, [], _∷_, _++_, map}
 use lib.ListN.{length, take, drop}
 use lib.Dec.{leb}
 use Rattle.lists.specs.Choose.{if_then_else_}
+use Rattle.lists.specs.Digits.{digitsUpTo, decimal}
+use Rattle.layout.specs.declared.Width.{Width}
+use Rattle.layout.specs.declared.Width.the-variants as W
 use Rattle.layout.specs.declared.Underflow.{Underflow}
 use Rattle.layout.specs.declared.Underflow.the-variants as U
 use Rattle.layout.specs.declared.Form.{Form}
@@ -14,7 +17,10 @@ use Rattle.layout.specs.Layout.{tableBytes}
 use Rattle.table.specs.Writing.{tableOf}
 use Rattle.expand.specs.Steps.{Stored}
 use Rattle.writer.specs.Storing.{only, isUnderflow, storedFor}
-use Rattle.writer.specs.Frame.{underflowBytes}
+use Rattle.writer.specs.Frame.{cell, underflowText, underflowBytes}
+use Rattle.writer.specs.Writer as M
+use Rattle.writer.specs.declared.BaseAnswer.{BaseAnswer}
+use Rattle.writer.specs.declared.BaseAnswer.the-variants as B
 use Rattle.writer.specs.declared.Counts.{Counts}
 use Rattle.writer.specs.declared.Places.{Places}
 
@@ -73,14 +79,44 @@ placesAfter form s at = record {
   four = at .four + length (s .four) * 4;
 }
 
--- where the parts of a frame start, behind a header of so many bytes
-unfoldable pub placesFor : ℕ → Form → Stored → Places
+-- the entries of each table
+abbrev pub storedCounts : Stored → Counts
+storedCounts s = record { under = length (s .under); two = length (s .two); four = length (s .four) }
+
+-- where the parts of a frame of n pixels start, behind a header of so many bytes
+unfoldable pub placesBy : ℕ → ℕ → Form → Counts → Places
 unfolding tableBytes
-placesFor start form s = record {
+placesBy start n form c = record {
   image = start;
-  under = start + length (s .image) * widthBytes (form .width);
-  two = start + length (s .image) * widthBytes (form .width) + tableBytes (underflowBytes (form .underflow)) (length (s .under));
-  four =
-      start + length (s .image) * widthBytes (form .width) + tableBytes (underflowBytes (form .underflow)) (length (s .under))
-      + tableBytes 2 (length (s .two));
+  under = start + n * widthBytes (form .width);
+  two = start + n * widthBytes (form .width) + tableBytes (underflowBytes (form .underflow)) (c .under);
+  four = start + n * widthBytes (form .width) + tableBytes (underflowBytes (form .underflow)) (c .under) + tableBytes 2 (c .two);
 }
+
+abbrev pub placesFor : ℕ → Form → Stored → Places
+placesFor start form s = placesBy start (length (s .image)) form (storedCounts s)
+
+-- the counts that a form has entries for
+abbrev pub underCount : Underflow → ℕ → ℕ
+underCount U.None n = 0
+underCount (U.Subtracted e) n = n
+
+abbrev pub twoCount : Width → ℕ → ℕ
+twoCount W.One n = n
+twoCount W.Two n = 0
+twoCount W.Four n = 0
+
+abbrev pub fourCount : Width → ℕ → ℕ
+fourCount W.One n = n
+fourCount W.Two n = n
+fourCount W.Four n = 0
+
+-- the data of NOVERFL for these counts
+unfoldable pub countsData : Underflow → Counts → List ℕ
+unfolding cell digitsUpTo
+countsData u c = cell (underflowText u (c .under)) ++ (cell (decimal (c .two)) ++ cell (decimal (c .four)))
+
+-- a baseline as it is answered
+abbrev pub baseAnswer : M.Base → BaseAnswer
+baseAnswer (M.base b) = B.Given b
+baseAnswer M.noBase = B.Missing

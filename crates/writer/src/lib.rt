@@ -1,20 +1,31 @@
 // Writing a frame of FORMAT 100.
 ghost use mathlib.Core.Path.{_≡_};
-ghost use mathlib.Core.Bool.{true, false};
+ghost use mathlib.Core.Bool.{true, false, _&&_, _||_};
 ghost use mathlib.Core.List.{[], map, _++_};
 ghost use Prim.Native.Nat.{_+_, _-_, _*_, _^_, _<_, _≤_};
 ghost use lib.ListN.{length, take, drop, replicate};
-ghost use lib.Dec.{leb};
+ghost use lib.Dec.{leb, ltb};
 ghost use Rattle.lists.specs.Choose.{if_then_else_};
+ghost use Rattle.lists.specs.Text.{codes};
 ghost use Rattle.lists.specs.Bytes.{zeros};
+ghost use Rattle.header_lines.specs.Lines.{positionOf};
+ghost use Rattle.header_lines.specs.declared.LineId.the-variants.{Noverfl, Npixelb};
+ghost use Rattle.layout.specs.Layout.{tableBytes};
 ghost use Rattle.layout.specs.Form.{widthBytes};
 ghost use Rattle.table.specs.Writing.{tableOf};
+ghost use Rattle.lists.specs.Digits.{digitsUpTo, decimal};
 ghost use Rattle.writer.specs.Storing.{only, isUnderflow, underEntries, twoEntries, fourEntries, storedValue, atMost65535, storedFor};
-ghost use Rattle.writer.specs.Frame.{underflowBytes, bodyBytes, frameLength};
-ghost use Rattle.writer.specs.Blocks.{less, capped, over, countsOf, countsMore, usedBase, Room, putBlock, placesAfter, placesFor};
+ghost use Rattle.writer.specs.Frame.{spaces, cell, underflowText, underflowBytes, noverflData, npixelbData, withData, rewritten, bodyBytes, frameLength};
+ghost use Rattle.writer.specs.Blocks.{less, capped, over, countsOf, countsMore, usedBase, Room, putBlock, placesAfter, placesBy, placesFor, underCount, twoCount, fourCount, countsData, baseAnswer};
+ghost use Rattle.writer.specs.Writer.{anyAbove255, underflowTooLarge, baseFor, lineBase};
+ghost use Rattle.header.specs.Body.{baselineOf};
+use header::HeaderAnswer;
+use header::ValueAnswer;
+use header_lines::LineId;
 use layout::EntryWidth;
 use layout::Form;
 use layout::Underflow;
+use layout::Underflows;
 use layout::Width;
 use refusal::Refusal;
 
@@ -28,6 +39,12 @@ pub enum AskedForm {
 pub enum WriteAnswer {
     Written { length: u64 },
     Refused(Refusal),
+}
+
+// A baseline, or none that serves.
+enum BaseAnswer {
+    Given(u32),
+    Missing,
 }
 
 // How many pixels underflow, and how many are 255 and 65535 above the baseline.
@@ -394,5 +411,273 @@ fn store_blocks(
         let n = e - p;
         t = store_block(&pixels[p..e], form, base, &mut low[..n], found, out, t);
         p = e;
+    }
+}
+
+// The last k digits of n at the front of out, with no zeros at the left. The answer: how many.
+fn put_digits(n: u32, k: usize, out: &mut [u8]) -> usize
+    requires { ⌜ k ≤ length (now out) ⌝ }
+    ensures { λ r. ⌜ r ≡ length (digitsUpTo k n) ⌝ }
+    ensures { λ _. ⌜ now (out .exit) ≡ digitsUpTo k n ++ drop (length (digitsUpTo k n)) (now (out .entry)) ⌝ }
+{
+    if k == 0 {
+        return 0;
+    }
+    let digit = 48 + (n % 10) as u8;
+    if n < 10 {
+        out[0] = digit;
+        return 1;
+    }
+    let before = put_digits(n / 10, k - 1, out);
+    out[before] = digit;
+    before + 1
+}
+
+// A number at the left of a cell.
+fn put_number(n: u32, out: &mut [u8])
+    requires { ⌜ length (now out) ≡ 24 ⌝ }
+    ensures { λ _. ⌜ now (out .exit) ≡ cell (decimal n) ⌝ }
+{
+    table::fill(out, 32);
+    put_digits(n, 10, out);
+}
+
+fn put_minus_one(out: &mut [u8])
+    requires { ⌜ length (now out) ≡ 24 ⌝ }
+    ensures { λ _. ⌜ now (out .exit) ≡ cell (codes "-1") ⌝ }
+{
+    table::fill(out, 32);
+    out[0] = 45;
+    out[1] = 49;
+}
+
+// The cell of the underflow count.
+fn put_underflow_count(u: Underflow, n: u32, out: &mut [u8])
+    requires { ⌜ length (now out) ≡ 24 ⌝ }
+    ensures { λ _. ⌜ now (out .exit) ≡ cell (underflowText u n) ⌝ }
+{
+    match u {
+        Underflow::None => put_minus_one(out),
+        Underflow::Subtracted(_) => put_number(n, out),
+    }
+}
+
+// The data of NOVERFL: three cells.
+fn put_noverfl(u: Underflow, c: Counts, out: &mut [u8])
+    requires { ⌜ length (now out) ≡ 72 ⌝ }
+    ensures { λ _. ⌜ now (out .exit) ≡ countsData u c ⌝ }
+{
+    put_underflow_count(u, c.under, &mut out[0..24]);
+    put_number(c.two, &mut out[24..48]);
+    put_number(c.four, &mut out[48..72]);
+}
+
+fn underflow_bytes(u: Underflow) -> u32
+    ensures { λ r. ⌜ r ≡ underflowBytes u ⌝ }
+{
+    match u {
+        Underflow::None => 0,
+        Underflow::Subtracted(e) => match e {
+            EntryWidth::One => 1,
+            EntryWidth::Two => 2,
+        },
+    }
+}
+
+fn pixel_bytes(w: Width) -> u32
+    ensures { λ r. ⌜ r ≡ widthBytes w ⌝ }
+{
+    match w {
+        Width::One => 1,
+        Width::Two => 2,
+        Width::Four => 4,
+    }
+}
+
+fn put_spaces(out: &mut [u8])
+    requires { ⌜ length (now out) ≡ 24 ⌝ }
+    ensures { λ _. ⌜ now (out .exit) ≡ spaces 24 ⌝ }
+{
+    table::fill(out, 32);
+}
+
+// The data of NPIXELB: two cells, and spaces in the third.
+fn put_npixelb(form: Form, out: &mut [u8])
+    requires { ⌜ length (now out) ≡ 72 ⌝ }
+    ensures { λ _. ⌜ now (out .exit) ≡ npixelbData form ⌝ }
+{
+    let w = form.width;
+    let u = form.underflow;
+    put_number(pixel_bytes(w), &mut out[0..24]);
+    put_number(underflow_bytes(u), &mut out[24..48]);
+    put_spaces(&mut out[48..72]);
+}
+
+// The header, copied but for two lines.
+fn put_header(header: &[u8], form: Form, c: Counts, out: &mut [u8])
+    requires { ⌜ (length (now header) ≡ length (now out)) × (3200 ≤ length (now header)) ⌝ }
+    ensures { λ _. ⌜ now (out .exit) ≡ withData Npixelb (npixelbData form) (withData Noverfl (countsData (form .underflow) c) (now (header .entry))) ⌝ }
+{
+    let u = form.underflow;
+    let noverfl = header_lines::position_of(LineId::Noverfl) as usize * 80 + 8;
+    let npixelb = header_lines::position_of(LineId::Npixelb) as usize * 80 + 8;
+    copy(header, out);
+    put_noverfl(u, c, &mut out[noverfl..noverfl + 72]);
+    put_npixelb(form, &mut out[npixelb..npixelb + 72]);
+}
+
+// The counts that the form has entries for.
+fn counts_for(form: Form, c: Counts) -> Counts
+    ensures { λ r. ⌜ (r .under ≡ underCount (form .underflow) (c .under)) × (r .two ≡ twoCount (form .width) (c .two)) × (r .four ≡ fourCount (form .width) (c .four)) ⌝ }
+{
+    let u = form.underflow;
+    let w = form.width;
+    let under = under_count(u, c.under);
+    let two = two_count(w, c.two);
+    let four = four_count(w, c.four);
+    Counts { under, two, four }
+}
+
+fn under_count(u: Underflow, n: u32) -> u32
+    ensures { λ r. ⌜ r ≡ underCount u n ⌝ }
+{
+    match u {
+        Underflow::None => 0,
+        Underflow::Subtracted(_) => n,
+    }
+}
+
+fn two_count(w: Width, n: u32) -> u32
+    ensures { λ r. ⌜ r ≡ twoCount w n ⌝ }
+{
+    match w {
+        Width::One => n,
+        Width::Two => 0,
+        Width::Four => 0,
+    }
+}
+
+fn four_count(w: Width, n: u32) -> u32
+    ensures { λ r. ⌜ r ≡ fourCount w n ⌝ }
+{
+    match w {
+        Width::One => n,
+        Width::Two => n,
+        Width::Four => 0,
+    }
+}
+
+// The bytes of a table with its padding.
+fn padded_bytes(w: Width, n: u32) -> usize
+    ensures { λ r. ⌜ r ≡ tableBytes (widthBytes w) n ⌝ }
+    ensures { λ r. ⌜ r ≤ 2 ^ 35 ⌝ }
+{
+    layout::table_bytes(w, n)
+}
+
+// The bytes of the underflow table.
+fn underflow_table_bytes(u: Underflow, n: u32) -> usize
+    ensures { λ r. ⌜ r ≡ tableBytes (underflowBytes u) n ⌝ }
+    ensures { λ r. ⌜ r ≤ 2 ^ 35 ⌝ }
+{
+    match u {
+        Underflow::None => 0,
+        Underflow::Subtracted(e) => padded_bytes(layout::entry_width(e), n),
+    }
+}
+
+// Where the parts of a frame of n pixels start.
+fn places_for(start: usize, n: usize, form: Form, c: Counts) -> Places
+    requires { ⌜ (start ≤ 2 ^ 32) × (n ≤ 2 ^ 32) ⌝ }
+    ensures { λ r. ⌜ r ≡ placesBy start n form c ⌝ }
+    ensures { λ r. ⌜ r .four ≤ 2 ^ 40 ⌝ }
+{
+    let w = form.width;
+    let u = form.underflow;
+    let under = start + n * layout::width_bytes(w);
+    let two = under + underflow_table_bytes(u, c.under);
+    let four = two + padded_bytes(Width::Two, c.two);
+    Places {
+        image: start,
+        under,
+        two,
+        four,
+    }
+}
+
+// found, or v is an underflow entry that one byte does not hold
+fn above(found: bool, v: u32, base: u32) -> bool
+    ensures { λ r. ⌜ r ≡ (found || (leb v base && ltb 255 v)) ⌝ }
+{
+    if v <= base {
+        if 255 < v { true } else { found }
+    } else {
+        found
+    }
+}
+
+// Some underflow entry is above 255.
+fn any_above(pixels: &[u32], base: u32) -> bool
+    ensures { λ r. ⌜ r ≡ anyAbove255 (only (isUnderflow base) (now (pixels .entry))) ⌝ }
+{
+    let mut found = false;
+    let mut i = 0;
+    while i < pixels.len() {
+        found = above(found, pixels[i], base);
+        i += 1;
+    }
+    found
+}
+
+// 17: some underflow entry is too large for its width. None is where the baseline fits.
+fn underflow_too_large(u: Underflow, pixels: &[u32], base: u32) -> bool
+    ensures { λ r. ⌜ r ≡ underflowTooLarge u (underEntries u base (now (pixels .entry))) ⌝ }
+{
+    let Underflow::Subtracted(entry) = u else {
+        return false;
+    };
+    match entry {
+        EntryWidth::One => {
+            if base <= 255 {
+                false
+            } else {
+                any_above(pixels, base)
+            }
+        }
+        EntryWidth::Two => false,
+    }
+}
+
+// Line 79's baseline where the header has -1: everything wrong with it is 16.
+fn line_base(header: &[u8]) -> BaseAnswer
+    ensures { λ r. ⌜ r ≡ baseAnswer (lineBase (baselineOf (now (header .entry)))) ⌝ }
+{
+    match header::baseline_of(header) {
+        ValueAnswer::Read(b) => {
+            if b <= 65535 {
+                BaseAnswer::Given(b)
+            } else {
+                BaseAnswer::Missing
+            }
+        }
+        ValueAnswer::Refused(_) => BaseAnswer::Missing,
+    }
+}
+
+// The baseline that the header gives to the kind.
+fn base_for(header: &[u8], h: Underflows, u: Underflow) -> BaseAnswer
+    ensures { λ r. ⌜ r ≡ baseAnswer (baseFor (now (header .entry)) h u) ⌝ }
+{
+    let Underflow::Subtracted(_) = u else {
+        return BaseAnswer::Given(0);
+    };
+    match h {
+        Underflows::Unused => line_base(header),
+        Underflows::NoWidth { baseline } => BaseAnswer::Given(baseline),
+        Underflows::Counted {
+            entry: _,
+            count: _,
+            baseline,
+        } => BaseAnswer::Given(baseline),
     }
 }
