@@ -1,12 +1,14 @@
-// Reading tables, once over the width of an entry.
+// Reading and writing tables, once over the width of an entry.
 ghost use mathlib.Core.Path.{_≡_};
+ghost use mathlib.Core.List.{_++_};
 ghost use Prim.Native.Nat.{_+_, _*_, _/_, _≤_};
-ghost use lib.ListN.{length, drop, getD};
+ghost use lib.ListN.{length, take, drop, getD, replicate};
 ghost use lib.Dec.{leb};
 ghost use Rattle.lists.specs.Choose.{if_then_else_};
-ghost use Rattle.lists.specs.Bytes.{little, zeros};
+ghost use Rattle.lists.specs.Bytes.{little, littleBytes, zeros};
 ghost use Rattle.layout.specs.Form.{widthBytes};
 ghost use Rattle.table.specs.Table.{entries, wholeEntries, allZero};
+ghost use Rattle.table.specs.Writing.{tableOf};
 use layout::Width;
 
 // The number in the w bytes of t from `from` on, least significant first.
@@ -92,6 +94,51 @@ pub fn clear(out: &mut [u32])
     let mut i = 0;
     while i < out.len() {
         out[i] = 0;
+        i += 1;
+    }
+}
+
+// v in the w bytes of t from `from` on, least significant first.
+fn put_le(t: &mut [u8], w: usize, from: usize, v: u32)
+    requires { ⌜ from + w ≤ length (now t) ⌝ }
+    ensures { λ _. ⌜ now (t .exit) ≡ take from (now (t .entry)) ++ (littleBytes w v ++ drop (from + w) (now (t .entry))) ⌝ }
+{
+    let mut x = v;
+    let mut at = from;
+    let end = from + w;
+    while at < end {
+        t[at] = (x % 256) as u8;
+        x = x / 256;
+        at += 1;
+    }
+}
+
+// The values as entries at the front of out, if it has room for them.
+pub fn store(values: &[u32], w: Width, out: &mut [u8]) -> bool
+    ensures { λ r. ⌜ r ≡ leb (length (now (values .entry)) * widthBytes w) (length (now (out .entry))) ⌝ }
+    ensures { λ _. ⌜ now (out .exit) ≡ if_then_else_ (leb (length (now (values .entry)) * widthBytes w) (length (now (out .entry)))) (tableOf (widthBytes w) (now (values .entry)) ++ drop (length (now (values .entry)) * widthBytes w) (now (out .entry))) (now (out .entry)) ⌝ }
+{
+    let each = layout::width_bytes(w);
+    if out.len() < values.len() * each {
+        return false;
+    }
+    let mut at = 0;
+    let mut i = 0;
+    while i < values.len() {
+        put_le(out, each, at, values[i]);
+        at += each;
+        i += 1;
+    }
+    true
+}
+
+// The byte in every place.
+pub fn fill(out: &mut [u8], byte: u8)
+    ensures { λ _. ⌜ now (out .exit) ≡ replicate (length (now (out .entry))) byte ⌝ }
+{
+    let mut i = 0;
+    while i < out.len() {
+        out[i] = byte;
         i += 1;
     }
 }

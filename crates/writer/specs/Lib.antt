@@ -1,3 +1,4 @@
 pub mod Storing
 pub mod Frame
 pub mod Writer
+pub mod Blocks

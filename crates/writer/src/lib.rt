@@ -1,5 +1,32 @@
 // Writing a frame of FORMAT 100.
+ghost use mathlib.Core.Path.{_≡_};
+ghost use mathlib.Core.Bool.{true, false, _&&_, _||_};
+ghost use mathlib.Core.List.{[], map, _++_};
+ghost use Prim.Native.Nat.{_+_, _-_, _*_, _^_, _<_, _≤_};
+ghost use lib.ListN.{length, take, drop, replicate};
+ghost use lib.Dec.{leb, ltb};
+ghost use Rattle.lists.specs.Choose.{if_then_else_};
+ghost use Rattle.lists.specs.Text.{codes};
+ghost use Rattle.lists.specs.Bytes.{zeros};
+ghost use Rattle.header_lines.specs.Lines.{positionOf};
+ghost use Rattle.header_lines.specs.declared.LineId.the-variants.{Noverfl, Npixelb};
+ghost use Rattle.layout.specs.Layout.{tableBytes};
+ghost use Rattle.layout.specs.Form.{widthBytes};
+ghost use Rattle.table.specs.Writing.{tableOf};
+ghost use Rattle.lists.specs.Digits.{digitsUpTo, decimal};
+ghost use Rattle.writer.specs.Storing.{only, isUnderflow, underEntries, twoEntries, fourEntries, storedValue, atMost65535, storedFor};
+ghost use Rattle.writer.specs.Frame.{spaces, cell, underflowText, underflowBytes, noverflData, npixelbData, withData, rewritten, bodyBytes, frameLength};
+ghost use Rattle.writer.specs.Blocks.{less, capped, over, countsOf, countsMore, usedBase, Room, putBlock, placesAfter, placesBy, placesFor, underCount, twoCount, fourCount, countsData, baseAnswer};
+ghost use Rattle.writer.specs.Writer.{anyAbove255, underflowTooLarge, baseFor, lineBase};
+ghost use Rattle.header.specs.Body.{baselineOf};
+use header::HeaderAnswer;
+use header::ValueAnswer;
+use header_lines::LineId;
+use layout::EntryWidth;
 use layout::Form;
+use layout::Underflow;
+use layout::Underflows;
+use layout::Width;
 use refusal::Refusal;
 
 // The form asked for, or that no listed form was.
@@ -12,4 +39,645 @@ pub enum AskedForm {
 pub enum WriteAnswer {
     Written { length: u64 },
     Refused(Refusal),
+}
+
+// A baseline, or none that serves.
+enum BaseAnswer {
+    Given(u32),
+    Missing,
+}
+
+// How many pixels underflow, and how many are 255 and 65535 above the baseline.
+struct Counts {
+    under: u32,
+    two: u32,
+    four: u32,
+}
+
+// Where the next stored values and entries go.
+struct Places {
+    image: usize,
+    under: usize,
+    two: usize,
+    four: usize,
+}
+
+fn one_if_at_most(v: u32, limit: u32) -> u32
+    ensures { λ r. ⌜ r ≡ if_then_else_ (leb v limit) 1 0 ⌝ }
+{
+    if v <= limit { 1 } else { 0 }
+}
+
+fn one_if_from(v: u32, limit: u32) -> u32
+    ensures { λ r. ⌜ r ≡ if_then_else_ (leb limit v) 1 0 ⌝ }
+{
+    if limit <= v { 1 } else { 0 }
+}
+
+// How many numbers are at most limit. The body has no branch, so that the loop is made of vector instructions.
+fn count_at_most(s: &[u32], limit: u32) -> u32
+    requires { ⌜ length (now s) < 2 ^ 32 ⌝ }
+    ensures { λ r. ⌜ r ≡ length (only (isUnderflow limit) (now (s .entry))) ⌝ }
+{
+    let mut k: u32 = 0;
+    let mut i = 0;
+    while i < s.len() {
+        k += one_if_at_most(s[i], limit);
+        i += 1;
+    }
+    k
+}
+
+// How many numbers are limit or more.
+fn count_from(s: &[u32], limit: u32) -> u32
+    requires { ⌜ length (now s) < 2 ^ 32 ⌝ }
+    ensures { λ r. ⌜ r ≡ length (only (leb limit) (now (s .entry))) ⌝ }
+{
+    let mut k: u32 = 0;
+    let mut i = 0;
+    while i < s.len() {
+        k += one_if_from(s[i], limit);
+        i += 1;
+    }
+    k
+}
+
+// The numbers that are at most limit, at the front of out. Each is stored, and the place moves on behind those that stay.
+fn gather_at_most(s: &[u32], limit: u32, out: &mut [u32]) -> usize
+    requires { ⌜ length (now s) ≤ length (now out) ⌝ }
+    ensures { λ r. ⌜ r ≡ length (only (isUnderflow limit) (now (s .entry))) ⌝ }
+    ensures { λ r. ⌜ take r (now (out .exit)) ≡ only (isUnderflow limit) (now (s .entry)) ⌝ }
+{
+    let mut k: usize = 0;
+    let mut i = 0;
+    while i < s.len() {
+        let v = s[i];
+        out[k] = v;
+        k += one_if_at_most(v, limit) as usize;
+        i += 1;
+    }
+    k
+}
+
+// The numbers that are limit or more, at the front of out.
+fn gather_from(s: &[u32], limit: u32, out: &mut [u32]) -> usize
+    requires { ⌜ length (now s) ≤ length (now out) ⌝ }
+    ensures { λ r. ⌜ r ≡ length (only (leb limit) (now (s .entry))) ⌝ }
+    ensures { λ r. ⌜ take r (now (out .exit)) ≡ only (leb limit) (now (s .entry)) ⌝ }
+{
+    let mut k: usize = 0;
+    let mut i = 0;
+    while i < s.len() {
+        let v = s[i];
+        out[k] = v;
+        k += one_if_from(v, limit) as usize;
+        i += 1;
+    }
+    k
+}
+
+fn less_base(v: u32, base: u32) -> u32
+    ensures { λ r. ⌜ r ≡ less base v ⌝ }
+{
+    if v <= base { 0 } else { v - base }
+}
+
+// The pixels less the baseline.
+fn lower(s: &[u32], base: u32, out: &mut [u32])
+    requires { ⌜ length (now s) ≡ length (now out) ⌝ }
+    ensures { λ _. ⌜ now (out .exit) ≡ map (less base) (now (s .entry)) ⌝ }
+{
+    let mut i = 0;
+    while i < s.len() {
+        out[i] = less_base(s[i], base);
+        i += 1;
+    }
+}
+
+fn at_most(v: u32, limit: u32) -> u32
+    ensures { λ r. ⌜ r ≡ capped limit v ⌝ }
+{
+    if limit <= v { limit } else { v }
+}
+
+// Every number at most limit.
+fn cap(s: &mut [u32], limit: u32)
+    ensures { λ _. ⌜ now (s .exit) ≡ map (capped limit) (now (s .entry)) ⌝ }
+{
+    let mut i = 0;
+    while i < s.len() {
+        s[i] = at_most(s[i], limit);
+        i += 1;
+    }
+}
+
+fn copy(s: &[u8], out: &mut [u8])
+    requires { ⌜ length (now s) ≡ length (now out) ⌝ }
+    ensures { λ _. ⌜ now (out .exit) ≡ now (s .entry) ⌝ }
+{
+    let mut i = 0;
+    while i < s.len() {
+        out[i] = s[i];
+        i += 1;
+    }
+}
+
+// The end of the block that starts at p: a block has 64 pixels.
+fn block_end(p: usize, n: usize) -> usize
+    requires { ⌜ p < n ⌝ }
+    ensures { λ r. ⌜ (p < r) × (r ≤ n) × (r ≤ p + 64) ⌝ }
+{
+    if 64 < n - p { p + 64 } else { n }
+}
+
+// The counts of a block.
+fn count_block(block: &[u32], base: u32) -> Counts
+    requires { ⌜ (length (now block) < 2 ^ 32) × (base ≤ 65535) ⌝ }
+    ensures { λ r. ⌜ r ≡ countsOf base (now (block .entry)) ⌝ }
+{
+    let under = count_at_most(block, base);
+    let two = count_from(block, base + 255);
+    let four = count_from(block, base + 65535);
+    Counts { under, two, four }
+}
+
+fn add_counts(c: Counts, d: Counts) -> Counts
+    requires { ⌜ (c .under + d .under < 2 ^ 32) × (c .two + d .two < 2 ^ 32) × (c .four + d .four < 2 ^ 32) ⌝ }
+    ensures { λ r. ⌜ r ≡ countsMore c d ⌝ }
+{
+    Counts {
+        under: c.under + d.under,
+        two: c.two + d.two,
+        four: c.four + d.four,
+    }
+}
+
+// The counts of all pixels, in one pass.
+fn count_blocks(pixels: &[u32], base: u32) -> Counts
+    requires { ⌜ (length (now pixels) < 2 ^ 32) × (base ≤ 65535) ⌝ }
+    ensures { λ r. ⌜ r ≡ countsOf base (now (pixels .entry)) ⌝ }
+{
+    let mut c = Counts {
+        under: 0,
+        two: 0,
+        four: 0,
+    };
+    let mut p = 0;
+    while p < pixels.len() {
+        let e = block_end(p, pixels.len());
+        let d = count_block(&pixels[p..e], base);
+        c = add_counts(c, d);
+        p = e;
+    }
+    c
+}
+
+// The values as entries in the bytes of out from `at` on.
+fn put(values: &[u32], w: Width, out: &mut [u8], at: usize)
+    requires { ⌜ at + length (now values) * widthBytes w ≤ length (now out) ⌝ }
+    ensures { λ _. ⌜ now (out .exit) ≡ over at (tableOf (widthBytes w) (now (values .entry))) (now (out .entry)) ⌝ }
+{
+    let each = layout::width_bytes(w);
+    let e = at + values.len() * each;
+    table::store(values, w, &mut out[at..e]);
+}
+
+// The underflow entries of a block, gathered in `found`. The answer: where the next go.
+fn put_underflows(
+    block: &[u32],
+    u: Underflow,
+    base: u32,
+    found: &mut [u32],
+    out: &mut [u8],
+    at: usize,
+) -> usize
+    requires { ⌜ (length (now block) ≤ 64) × (length (now found) ≡ 64) × (at + length (underEntries u base (now block)) * underflowBytes u ≤ length (now out)) ⌝ }
+    ensures { λ r. ⌜ r ≡ at + length (underEntries u base (now (block .entry))) * underflowBytes u ⌝ }
+    ensures { λ _. ⌜ now (out .exit) ≡ over at (tableOf (underflowBytes u) (underEntries u base (now (block .entry)))) (now (out .entry)) ⌝ }
+{
+    let Underflow::Subtracted(entry) = u else {
+        return at;
+    };
+    if count_at_most(block, base) == 0 {
+        return at;
+    }
+    let k = gather_at_most(block, base, found);
+    match entry {
+        EntryWidth::One => {
+            put(&found[..k], Width::One, out, at);
+            at + k
+        }
+        EntryWidth::Two => {
+            put(&found[..k], Width::Two, out, at);
+            at + k * 2
+        }
+    }
+}
+
+// Two-byte entries, at most 65535 each.
+fn put_capped(values: &mut [u32], out: &mut [u8], at: usize)
+    requires { ⌜ at + length (now values) * 2 ≤ length (now out) ⌝ }
+    ensures { λ _. ⌜ now (out .exit) ≡ over at (tableOf 2 (map atMost65535 (now (values .entry)))) (now (out .entry)) ⌝ }
+{
+    cap(values, 65535);
+    put(values, Width::Two, out, at);
+}
+
+// The two-byte entries of a block of width 1.
+fn put_two_byte(low: &[u32], found: &mut [u32], out: &mut [u8], at: usize) -> usize
+    requires { ⌜ (length (now low) ≤ 64) × (length (now found) ≡ 64) × (at + length (map atMost65535 (only (leb 255) (now low))) * 2 ≤ length (now out)) ⌝ }
+    ensures { λ r. ⌜ r ≡ at + length (map atMost65535 (only (leb 255) (now (low .entry)))) * 2 ⌝ }
+    ensures { λ _. ⌜ now (out .exit) ≡ over at (tableOf 2 (map atMost65535 (only (leb 255) (now (low .entry))))) (now (out .entry)) ⌝ }
+{
+    if count_from(low, 255) == 0 {
+        return at;
+    }
+    let k = gather_from(low, 255, found);
+    put_capped(&mut found[..k], out, at);
+    at + k * 2
+}
+
+// The two-byte entries of a block.
+fn put_twos(low: &[u32], w: Width, found: &mut [u32], out: &mut [u8], at: usize) -> usize
+    requires { ⌜ (length (now low) ≤ 64) × (length (now found) ≡ 64) × (at + length (twoEntries w (now low)) * 2 ≤ length (now out)) ⌝ }
+    ensures { λ r. ⌜ r ≡ at + length (twoEntries w (now (low .entry))) * 2 ⌝ }
+    ensures { λ _. ⌜ now (out .exit) ≡ over at (tableOf 2 (twoEntries w (now (low .entry)))) (now (out .entry)) ⌝ }
+{
+    match w {
+        Width::One => put_two_byte(low, found, out, at),
+        Width::Two => at,
+        Width::Four => at,
+    }
+}
+
+// The four-byte entries of a block of width 1 or 2.
+fn put_four_byte(low: &[u32], found: &mut [u32], out: &mut [u8], at: usize) -> usize
+    requires { ⌜ (length (now low) ≤ 64) × (length (now found) ≡ 64) × (at + length (only (leb 65535) (now low)) * 4 ≤ length (now out)) ⌝ }
+    ensures { λ r. ⌜ r ≡ at + length (only (leb 65535) (now (low .entry))) * 4 ⌝ }
+    ensures { λ _. ⌜ now (out .exit) ≡ over at (tableOf 4 (only (leb 65535) (now (low .entry)))) (now (out .entry)) ⌝ }
+{
+    if count_from(low, 65535) == 0 {
+        return at;
+    }
+    let k = gather_from(low, 65535, found);
+    put(&found[..k], Width::Four, out, at);
+    at + k * 4
+}
+
+// The four-byte entries of a block.
+fn put_fours(low: &[u32], w: Width, found: &mut [u32], out: &mut [u8], at: usize) -> usize
+    requires { ⌜ (length (now low) ≤ 64) × (length (now found) ≡ 64) × (at + length (fourEntries w (now low)) * 4 ≤ length (now out)) ⌝ }
+    ensures { λ r. ⌜ r ≡ at + length (fourEntries w (now (low .entry))) * 4 ⌝ }
+    ensures { λ _. ⌜ now (out .exit) ≡ over at (tableOf 4 (fourEntries w (now (low .entry)))) (now (out .entry)) ⌝ }
+{
+    match w {
+        Width::One => put_four_byte(low, found, out, at),
+        Width::Two => put_four_byte(low, found, out, at),
+        Width::Four => at,
+    }
+}
+
+// The stored values of a block.
+fn put_image(low: &mut [u32], w: Width, out: &mut [u8], at: usize) -> usize
+    requires { ⌜ at + length (now low) * widthBytes w ≤ length (now out) ⌝ }
+    ensures { λ r. ⌜ r ≡ at + length (now (low .entry)) * widthBytes w ⌝ }
+    ensures { λ _. ⌜ now (out .exit) ≡ over at (tableOf (widthBytes w) (map (storedValue w) (now (low .entry)))) (now (out .entry)) ⌝ }
+{
+    let n = low.len();
+    match w {
+        Width::One => {
+            cap(low, 255);
+            put(low, Width::One, out, at);
+            at + n
+        }
+        Width::Two => {
+            cap(low, 65535);
+            put(low, Width::Two, out, at);
+            at + n * 2
+        }
+        Width::Four => {
+            put(low, Width::Four, out, at);
+            at + n * 4
+        }
+    }
+}
+
+// A block: its entries and its stored values, each at its place. `low` and `found` are room for its numbers.
+fn store_block(
+    block: &[u32],
+    form: Form,
+    base: u32,
+    low: &mut [u32],
+    found: &mut [u32],
+    out: &mut [u8],
+    at: Places,
+) -> Places
+    requires { ⌜ (length (now block) ≤ 64) × (length (now block) ≡ length (now low)) × (length (now found) ≡ 64) × (base ≡ usedBase (form .underflow) base) × Room form (storedFor form base (now block)) at (length (now out)) ⌝ }
+    ensures { λ r. ⌜ r ≡ placesAfter form (storedFor form base (now (block .entry))) at ⌝ }
+    ensures { λ _. ⌜ now (out .exit) ≡ putBlock form (storedFor form base (now (block .entry))) at (now (out .entry)) ⌝ }
+{
+    let u = form.underflow;
+    let w = form.width;
+    let under = put_underflows(block, u, base, found, out, at.under);
+    lower(block, base, low);
+    let two = put_twos(low, w, found, out, at.two);
+    let four = put_fours(low, w, found, out, at.four);
+    let image = put_image(low, w, out, at.image);
+    Places {
+        image,
+        under,
+        two,
+        four,
+    }
+}
+
+// All blocks, in a buffer that is zero behind the image.
+fn store_blocks(
+    pixels: &[u32],
+    form: Form,
+    base: u32,
+    low: &mut [u32],
+    found: &mut [u32],
+    out: &mut [u8],
+    at: Places,
+)
+    requires { ⌜ (length (now low) ≡ 64) × (length (now found) ≡ 64) × (base ≡ usedBase (form .underflow) base) × (at ≡ placesFor (at .image) form (storedFor form base (now pixels))) × (frameLength (at .image) form (storedFor form base (now pixels)) ≤ length (now out)) × (drop (at .image + length (storedFor form base (now pixels) .image) * widthBytes (form .width)) (now out) ≡ zeros (length (now out) - (at .image + length (storedFor form base (now pixels) .image) * widthBytes (form .width)))) ⌝ }
+    ensures { λ _. ⌜ now (out .exit) ≡ take (at .image) (now (out .entry)) ++ (bodyBytes form (storedFor form base (now (pixels .entry))) ++ zeros (length (now (out .entry)) - frameLength (at .image) form (storedFor form base (now (pixels .entry))))) ⌝ }
+{
+    let mut t = at;
+    let mut p = 0;
+    while p < pixels.len() {
+        let e = block_end(p, pixels.len());
+        let n = e - p;
+        t = store_block(&pixels[p..e], form, base, &mut low[..n], found, out, t);
+        p = e;
+    }
+}
+
+// The last k digits of n at the front of out, with no zeros at the left. The answer: how many.
+fn put_digits(n: u32, k: usize, out: &mut [u8]) -> usize
+    requires { ⌜ k ≤ length (now out) ⌝ }
+    ensures { λ r. ⌜ r ≡ length (digitsUpTo k n) ⌝ }
+    ensures { λ _. ⌜ now (out .exit) ≡ digitsUpTo k n ++ drop (length (digitsUpTo k n)) (now (out .entry)) ⌝ }
+{
+    if k == 0 {
+        return 0;
+    }
+    let digit = 48 + (n % 10) as u8;
+    if n < 10 {
+        out[0] = digit;
+        return 1;
+    }
+    let before = put_digits(n / 10, k - 1, out);
+    out[before] = digit;
+    before + 1
+}
+
+// A number at the left of a cell.
+fn put_number(n: u32, out: &mut [u8])
+    requires { ⌜ length (now out) ≡ 24 ⌝ }
+    ensures { λ _. ⌜ now (out .exit) ≡ cell (decimal n) ⌝ }
+{
+    table::fill(out, 32);
+    put_digits(n, 10, out);
+}
+
+fn put_minus_one(out: &mut [u8])
+    requires { ⌜ length (now out) ≡ 24 ⌝ }
+    ensures { λ _. ⌜ now (out .exit) ≡ cell (codes "-1") ⌝ }
+{
+    table::fill(out, 32);
+    out[0] = 45;
+    out[1] = 49;
+}
+
+// The cell of the underflow count.
+fn put_underflow_count(u: Underflow, n: u32, out: &mut [u8])
+    requires { ⌜ length (now out) ≡ 24 ⌝ }
+    ensures { λ _. ⌜ now (out .exit) ≡ cell (underflowText u n) ⌝ }
+{
+    match u {
+        Underflow::None => put_minus_one(out),
+        Underflow::Subtracted(_) => put_number(n, out),
+    }
+}
+
+// The data of NOVERFL: three cells.
+fn put_noverfl(u: Underflow, c: Counts, out: &mut [u8])
+    requires { ⌜ length (now out) ≡ 72 ⌝ }
+    ensures { λ _. ⌜ now (out .exit) ≡ countsData u c ⌝ }
+{
+    put_underflow_count(u, c.under, &mut out[0..24]);
+    put_number(c.two, &mut out[24..48]);
+    put_number(c.four, &mut out[48..72]);
+}
+
+fn underflow_bytes(u: Underflow) -> u32
+    ensures { λ r. ⌜ r ≡ underflowBytes u ⌝ }
+{
+    match u {
+        Underflow::None => 0,
+        Underflow::Subtracted(e) => match e {
+            EntryWidth::One => 1,
+            EntryWidth::Two => 2,
+        },
+    }
+}
+
+fn pixel_bytes(w: Width) -> u32
+    ensures { λ r. ⌜ r ≡ widthBytes w ⌝ }
+{
+    match w {
+        Width::One => 1,
+        Width::Two => 2,
+        Width::Four => 4,
+    }
+}
+
+fn put_spaces(out: &mut [u8])
+    requires { ⌜ length (now out) ≡ 24 ⌝ }
+    ensures { λ _. ⌜ now (out .exit) ≡ spaces 24 ⌝ }
+{
+    table::fill(out, 32);
+}
+
+// The data of NPIXELB: two cells, and spaces in the third.
+fn put_npixelb(form: Form, out: &mut [u8])
+    requires { ⌜ length (now out) ≡ 72 ⌝ }
+    ensures { λ _. ⌜ now (out .exit) ≡ npixelbData form ⌝ }
+{
+    let w = form.width;
+    let u = form.underflow;
+    put_number(pixel_bytes(w), &mut out[0..24]);
+    put_number(underflow_bytes(u), &mut out[24..48]);
+    put_spaces(&mut out[48..72]);
+}
+
+// The header, copied but for two lines.
+fn put_header(header: &[u8], form: Form, c: Counts, out: &mut [u8])
+    requires { ⌜ (length (now header) ≡ length (now out)) × (3200 ≤ length (now header)) ⌝ }
+    ensures { λ _. ⌜ now (out .exit) ≡ withData Npixelb (npixelbData form) (withData Noverfl (countsData (form .underflow) c) (now (header .entry))) ⌝ }
+{
+    let u = form.underflow;
+    let noverfl = header_lines::position_of(LineId::Noverfl) as usize * 80 + 8;
+    let npixelb = header_lines::position_of(LineId::Npixelb) as usize * 80 + 8;
+    copy(header, out);
+    put_noverfl(u, c, &mut out[noverfl..noverfl + 72]);
+    put_npixelb(form, &mut out[npixelb..npixelb + 72]);
+}
+
+// The counts that the form has entries for.
+fn counts_for(form: Form, c: Counts) -> Counts
+    ensures { λ r. ⌜ (r .under ≡ underCount (form .underflow) (c .under)) × (r .two ≡ twoCount (form .width) (c .two)) × (r .four ≡ fourCount (form .width) (c .four)) ⌝ }
+{
+    let u = form.underflow;
+    let w = form.width;
+    let under = under_count(u, c.under);
+    let two = two_count(w, c.two);
+    let four = four_count(w, c.four);
+    Counts { under, two, four }
+}
+
+fn under_count(u: Underflow, n: u32) -> u32
+    ensures { λ r. ⌜ r ≡ underCount u n ⌝ }
+{
+    match u {
+        Underflow::None => 0,
+        Underflow::Subtracted(_) => n,
+    }
+}
+
+fn two_count(w: Width, n: u32) -> u32
+    ensures { λ r. ⌜ r ≡ twoCount w n ⌝ }
+{
+    match w {
+        Width::One => n,
+        Width::Two => 0,
+        Width::Four => 0,
+    }
+}
+
+fn four_count(w: Width, n: u32) -> u32
+    ensures { λ r. ⌜ r ≡ fourCount w n ⌝ }
+{
+    match w {
+        Width::One => n,
+        Width::Two => n,
+        Width::Four => 0,
+    }
+}
+
+// The bytes of a table with its padding.
+fn padded_bytes(w: Width, n: u32) -> usize
+    ensures { λ r. ⌜ r ≡ tableBytes (widthBytes w) n ⌝ }
+    ensures { λ r. ⌜ r ≤ 2 ^ 35 ⌝ }
+{
+    layout::table_bytes(w, n)
+}
+
+// The bytes of the underflow table.
+fn underflow_table_bytes(u: Underflow, n: u32) -> usize
+    ensures { λ r. ⌜ r ≡ tableBytes (underflowBytes u) n ⌝ }
+    ensures { λ r. ⌜ r ≤ 2 ^ 35 ⌝ }
+{
+    match u {
+        Underflow::None => 0,
+        Underflow::Subtracted(e) => padded_bytes(layout::entry_width(e), n),
+    }
+}
+
+// Where the parts of a frame of n pixels start.
+fn places_for(start: usize, n: usize, form: Form, c: Counts) -> Places
+    requires { ⌜ (start ≤ 2 ^ 32) × (n ≤ 2 ^ 32) ⌝ }
+    ensures { λ r. ⌜ r ≡ placesBy start n form c ⌝ }
+    ensures { λ r. ⌜ r .four ≤ 2 ^ 40 ⌝ }
+{
+    let w = form.width;
+    let u = form.underflow;
+    let under = start + n * layout::width_bytes(w);
+    let two = under + underflow_table_bytes(u, c.under);
+    let four = two + padded_bytes(Width::Two, c.two);
+    Places {
+        image: start,
+        under,
+        two,
+        four,
+    }
+}
+
+// found, or v is an underflow entry that one byte does not hold
+fn above(found: bool, v: u32, base: u32) -> bool
+    ensures { λ r. ⌜ r ≡ (found || (leb v base && ltb 255 v)) ⌝ }
+{
+    if v <= base {
+        if 255 < v { true } else { found }
+    } else {
+        found
+    }
+}
+
+// Some underflow entry is above 255.
+fn any_above(pixels: &[u32], base: u32) -> bool
+    ensures { λ r. ⌜ r ≡ anyAbove255 (only (isUnderflow base) (now (pixels .entry))) ⌝ }
+{
+    let mut found = false;
+    let mut i = 0;
+    while i < pixels.len() {
+        found = above(found, pixels[i], base);
+        i += 1;
+    }
+    found
+}
+
+// 17: some underflow entry is too large for its width. None is where the baseline fits.
+fn underflow_too_large(u: Underflow, pixels: &[u32], base: u32) -> bool
+    ensures { λ r. ⌜ r ≡ underflowTooLarge u (underEntries u base (now (pixels .entry))) ⌝ }
+{
+    let Underflow::Subtracted(entry) = u else {
+        return false;
+    };
+    match entry {
+        EntryWidth::One => {
+            if base <= 255 {
+                false
+            } else {
+                any_above(pixels, base)
+            }
+        }
+        EntryWidth::Two => false,
+    }
+}
+
+// Line 79's baseline where the header has -1: everything wrong with it is 16.
+fn line_base(header: &[u8]) -> BaseAnswer
+    ensures { λ r. ⌜ r ≡ baseAnswer (lineBase (baselineOf (now (header .entry)))) ⌝ }
+{
+    match header::baseline_of(header) {
+        ValueAnswer::Read(b) => {
+            if b <= 65535 {
+                BaseAnswer::Given(b)
+            } else {
+                BaseAnswer::Missing
+            }
+        }
+        ValueAnswer::Refused(_) => BaseAnswer::Missing,
+    }
+}
+
+// The baseline that the header gives to the kind.
+fn base_for(header: &[u8], h: Underflows, u: Underflow) -> BaseAnswer
+    ensures { λ r. ⌜ r ≡ baseAnswer (baseFor (now (header .entry)) h u) ⌝ }
+{
+    let Underflow::Subtracted(_) = u else {
+        return BaseAnswer::Given(0);
+    };
+    match h {
+        Underflows::Unused => line_base(header),
+        Underflows::NoWidth { baseline } => BaseAnswer::Given(baseline),
+        Underflows::Counted {
+            entry: _,
+            count: _,
+            baseline,
+        } => BaseAnswer::Given(baseline),
+    }
 }

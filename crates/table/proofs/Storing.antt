@@ -1,0 +1,93 @@
+-- Laws of entries written as bytes, and the loops that write them.
+-- Assumes nothing.
+use mathlib.Core.Path.{_≡_, refl, sym, ap, _∙_}
+use mathlib.Core.List.{List, [], _∷_, _++_, append-assoc, append-nil}
+use Prim.Native.Nat.{ℕ, zero, suc, _+_, _*_, _-_, _/_, _%_, _≤_, _<_}
+use native.Mathlib.Nat.{add-zero, suc-mul, zero-mul}
+use native.Mathlib.Numerals.{add-one}
+use native.Mathlib.Omega.{arith}
+use lib.ListN.{length, take, drop, getD, set, length-append, length-set, take-append-drop, length-drop, length-take}
+use lib.Seq.{take-suc, take-all, drop-set-lt, take-suc-set, append-snoc, drop-drop, take-at, drop-at, length-take-le, take-length}
+use Rattle.lists.specs.Bytes.{littleBytes, zeros}
+use Rattle.layout.specs.Layout.{tableBytes}
+use Rattle.table.specs.Writing.{tableOf, paddedTable}
+
+pub length-littleBytes : (w v : ℕ) → length (littleBytes w v) ≡ w
+unfolding littleBytes
+length-littleBytes zero v = refl
+length-littleBytes (suc w) v = ap suc (length-littleBytes w (v / 256))
+
+pub table-append : (w : ℕ) (xs ys : List ℕ) → tableOf w (xs ++ ys) ≡ tableOf w xs ++ tableOf w ys
+unfolding tableOf
+table-append w [] ys = refl
+table-append w (x ∷ xs) ys = rw (table-append w xs ys) (sym (append-assoc (littleBytes w x) (tableOf w xs) (tableOf w ys)))
+
+pub length-table : (w : ℕ) (xs : List ℕ) → length (tableOf w xs) ≡ length xs * w
+unfolding tableOf
+length-table w [] = sym (zero-mul w)
+length-table w (x ∷ xs) = rw (length-append, length-littleBytes, length-table w xs) (omega (arith, suc-mul (length xs) w))
+
+-- The loop that writes a number's bytes.
+pub record Putting (t₀ t goal : List ℕ) (end at x : ℕ) : Type 0 where
+  pub upto : at ≤ end
+  pub room : end ≤ length t
+  pub same : length t ≡ length t₀
+  pub is : take at t ++ (littleBytes (end - at) x ++ drop end t) ≡ goal
+
+pub putting-start : (t : List ℕ) (from w x : ℕ) → from + w ≤ length t → Putting t t (take from t ++ (littleBytes w x ++ drop (from + w) t)) (from + w) from x
+putting-start t from w x h = record {
+  upto = omega arith;
+  room = h;
+  same = refl;
+  is = let e : from + w - from ≡ w = omega arith in rw e;
+}
+
+pub putting-more : {t₀ t goal : List ℕ} {end at x : ℕ} → Putting t₀ t goal end at x → at < end → Putting t₀ (set t at (x % 256)) goal end (at + 1) (x / 256)
+unfolding littleBytes
+putting-more {t₀} {t} {goal} {end} {at} {x} f h =
+    let n : end - at ≡ suc (end - suc at) = omega arith in
+    record {
+      upto = omega arith;
+      room = simp length-set (f .room);
+      same = simp length-set (f .same);
+      is = rw (add-one, drop-set-lt end t at _ h, take-suc-set t at _ (omega (arith, f .room)), append-snoc) (rw n at (f .is));
+    }
+
+pub putting-done : {t₀ t goal : List ℕ} {end at x : ℕ} → Putting t₀ t goal end at x → end ≤ at → t ≡ goal
+unfolding littleBytes
+putting-done {t₀} {t} {goal} {end} {at} {x} f h =
+    let e : at ≡ end = omega (arith, f .upto) in
+    let n : end - end ≡ 0 = omega arith in
+    sym (take-append-drop end t) ∙ (rw (e, n) at (f .is))
+
+-- The loop that writes entries.
+pub record Storing (w : ℕ) (values out₀ out : List ℕ) (at i : ℕ) : Type 0 where
+  pub upto : i ≤ length values
+  pub at-is : at ≡ i * w
+  pub same : length out ≡ length out₀
+  pub is : out ≡ tableOf w (take i values) ++ drop at out₀
+
+pub storing-start : (w : ℕ) (values out : List ℕ) → Storing w values out out 0 0
+unfolding tableOf
+storing-start w values out = record { upto = omega arith; at-is = sym (zero-mul w); same = refl; is = refl }
+
+pub storing-more : {w : ℕ} {values out₀ out out′ : List ℕ} {at i : ℕ} → Storing w values out₀ out at i → i < length values → at + w ≤ length out₀
+    → out′ ≡ take at out ++ (littleBytes w (getD values i 0) ++ drop (at + w) out) → Storing w values out₀ out′ (at + w) (i + 1)
+unfolding tableOf
+storing-more {w} {values} {out₀} {out} {out′} {at} {i} f h room e =
+    let done : List ℕ = tableOf w (take i values) in
+    let l : length done ≡ at = length-table w (take i values) ∙ rw (f .at-is) (ap (λ (n : ℕ). n * w) (length-take-le i values (omega arith))) in
+    record {
+      upto = omega arith;
+      at-is = rw (add-one, f .at-is) (omega (arith, suc-mul i w));
+      same = ap length e ∙ simp (length-append, length-littleBytes, length-take, length-drop) (omega (arith, f .same));
+      is =
+          e
+          ∙ rw
+          (f .is, take-at done (drop at out₀) at l, ← drop-drop w at (done ++ drop at out₀), drop-at done (drop at out₀) at l, drop-drop, add-one, take-suc values i 0 h, table-append, append-nil, append-assoc);
+    }
+
+pub storing-done : {w : ℕ} {values out₀ out : List ℕ} {at i : ℕ} → Storing w values out₀ out at i → length values ≤ i → out ≡ tableOf w values ++ drop (length values * w) out₀
+storing-done {w} {values} {out₀} {out} {at} {i} f h =
+    let e : i ≡ length values = omega (arith, f .upto) in
+    f .is ∙ rw (f .at-is, e, take-length)

@@ -1,0 +1,5 @@
+pub mod Gathering
+pub mod Over
+pub mod Placing
+pub mod Cells
+pub mod Judging

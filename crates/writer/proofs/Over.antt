@@ -1,0 +1,90 @@
+-- Bytes put over a buffer.
+-- Assumes nothing.
+use mathlib.Core.Path.{_≡_, refl, sym, ap, _∙_}
+use mathlib.Core.Bool.{Bool, true, false}
+use mathlib.Core.List.{List, [], _∷_, _++_, map, append-assoc, append-nil}
+use Prim.Native.Nat.{ℕ, zero, suc, _+_, _*_, _-_, _≤_, _<_}
+use native.Mathlib.Nat.{add-zero, add-assoc}
+use native.Mathlib.Omega.{arith}
+use lib.ListN.{length, take, drop, length-append, length-take, length-drop, length-map, take-append-drop, drop-of-length-le}
+use lib.Seq.{take-append-seam, take-append-le, drop-append-le, take-append-add, drop-append-add, drop-drop, length-take-le}
+use lib.Dec.{leb}
+use borrow.Author.Tests.{le-leb}
+use borrow.Rule.Slice.PartMut.{putMid}
+use Rattle.lists.specs.Choose.{if_then_else_}
+use Rattle.table.specs.Writing.{tableOf}
+use Rattle.table.proofs.Storing.{length-table, table-append}
+use Rattle.layout.specs.declared.Width.the-variants as W
+use Rattle.writer.specs.Storing.{atMost65535, storedValue}
+use Rattle.writer.specs.Blocks.{over}
+use Rattle.writer.proofs.Gathering.{map-four}
+
+pub over-none : (at : ℕ) (d : List ℕ) → over at [] d ≡ d
+unfolding over
+over-none at d = rw add-zero (take-append-drop at d)
+
+pub length-over : (at : ℕ) (ys d : List ℕ) → at + length ys ≤ length d → length (over at ys d) ≡ length d
+unfolding over
+length-over at ys d h = simp (length-append, length-take, length-drop) (omega arith)
+
+pub over-skip : (a b ys : List ℕ) (k at : ℕ) → at ≡ length a + k → over at ys (a ++ b) ≡ a ++ over k ys b
+unfolding over
+over-skip a b ys k at e = rw (e, take-append-add, add-assoc, drop-append-add, append-assoc)
+
+pub over-first : (a b ys : List ℕ) (at : ℕ) → at + length ys ≤ length a → over at ys (a ++ b) ≡ over at ys a ++ b
+unfolding over
+over-first a b ys at h = rw (take-append-le at a b (omega arith), drop-append-le (at + length ys) a b h, append-assoc, append-assoc)
+
+-- a region whose front is written
+abbrev pub front : List ℕ → List ℕ → List ℕ
+front xs r = xs ++ drop (length xs) r
+
+pub length-front : (xs r : List ℕ) → length xs ≤ length r → length (front xs r) ≡ length r
+length-front xs r h = simp (length-append, length-drop) (omega arith)
+
+pub over-front : (xs ys r : List ℕ) → over (length xs) ys (front xs r) ≡ front (xs ++ ys) r
+unfolding over
+over-front xs ys r = rw (take-append-seam, drop-append-add, drop-drop, length-append, append-assoc)
+
+-- what a part of a buffer comes back as
+pub put-part : (values d ys : List ℕ) (w at e : ℕ) → e ≡ at + length values * w → e ≤ length d
+    → ys ≡ if_then_else_ (leb (length values * w) (length (take (e - at) (drop at d)))) (tableOf w values ++ drop (length values * w) (take (e - at) (drop at d))) (take (e - at) (drop at d))
+    → putMid at (e - at) d ys ≡ over at (tableOf w values) d
+unfolding over
+put-part values d ys w at e p h q =
+    let l : length (take (e - at) (drop at d)) ≡ length values * w = simp (length-take, length-drop) (omega arith) in
+    let n : e - at ≡ length values * w = omega arith in
+    let z : drop (length values * w) (take (e - at) (drop at d)) ≡ [] = drop-of-length-le (take (e - at) (drop at d)) {i = length values * w} (rw l (omega arith)) in
+    let y : ys ≡ tableOf w values = q ∙ rw (l, le-leb (length values * w) (length values * w) (omega arith), z, append-nil) in
+    rw (y, n, length-table, drop-drop)
+
+-- nothing gathered
+pub none-found : (r : ℕ) (xs : List ℕ) → r ≡ length xs → r ≡ 0 → xs ≡ []
+none-found r [] e z = refl
+none-found r (x ∷ xs) e z = absurd (omega arith)
+
+pub none-capped : (r : ℕ) (xs : List ℕ) → r ≡ length xs → r ≡ 0 → map atMost65535 xs ≡ []
+none-capped r xs e z = rw (none-found r xs e z)
+
+pub none-put : (at w : ℕ) (xs d : List ℕ) → xs ≡ [] → (at ≡ at + length xs * w) × (d ≡ over at (tableOf w xs) d)
+unfolding tableOf
+none-put at w xs d e = rw e (omega arith, sym (over-none at d))
+
+-- what was gathered is at the front of l
+pub taken-fits : (k : ℕ) (l xs : List ℕ) → (k ≡ length xs) × (take k l ≡ xs) → k ≤ length l
+taken-fits k l xs e = omega (arith, length-take k l, ap length (e .1))
+
+pub taken-length : (k : ℕ) (l xs : List ℕ) → (k ≡ length xs) × (take k l ≡ xs) → k ≡ length (take k l)
+taken-length k l xs e = e .0 ∙ sym (ap length (e .1))
+
+pub some-put : (at w k : ℕ) (l xs d d′ : List ℕ) → (k ≡ length xs) × (take k l ≡ xs) → d′ ≡ over at (tableOf w (take k l)) d
+    → (at + k * w ≡ at + length xs * w) × (d′ ≡ over at (tableOf w xs) d)
+some-put at w k l xs d d′ e p = (rw (← e .0), p ∙ rw (e .1))
+
+-- entries capped on their way
+pub capped-put : (at k : ℕ) (l xs d d′ : List ℕ) → (k ≡ length xs) × (take k l ≡ xs) → d′ ≡ over at (tableOf 2 (map atMost65535 (take k l))) d
+    → (at + k * 2 ≡ at + length (map atMost65535 xs) * 2) × (d′ ≡ over at (tableOf 2 (map atMost65535 xs)) d)
+capped-put at k l xs d d′ e p = (rw (length-map, ← e .0), p ∙ rw (e .1))
+
+pub four-put : (at : ℕ) (xs d d′ : List ℕ) → d′ ≡ over at (tableOf 4 xs) d → d′ ≡ over at (tableOf 4 (map (storedValue W.Four) xs)) d
+four-put at xs d d′ p = p ∙ ap (λ (l : List ℕ). over at (tableOf 4 l) d) (sym (map-four xs))

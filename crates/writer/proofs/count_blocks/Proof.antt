@@ -1,0 +1,69 @@
+use Prim.Native.Nat.{_-_}
+use lib.ListN.{length, length-take, length-drop}
+use Rattle.writer.proofs.Gathering.{Blocks, blocks-start, blocks-more, blocks-few, block-few, blocks-done}
+use borrow.Author.Needs.{needs}
+use native.Mathlib.Omega.{arith}
+use Rattle.writer.proofs.count_blocks.Statement.{statement}
+use Rattle.writer.proofs.count_blocks.Tie as tie
+
+abbrev Inv-loop : tie.InvT-loop
+Inv-loop pixels base c₀ p₀ c p = Blocks base pixels c p
+
+abbrev μ-loop : tie.MeasureT-loop
+μ-loop pixels base c₀ p₀ c p = length pixels - p
+
+loop-holds : tie.Need-loop-holds Inv-loop μ-loop
+loop-holds c = blocks-start _ _
+
+block-end-requires : tie.Need-block-end-requires Inv-loop μ-loop
+block-end-requires c κs = search needs
+
+mul-count-block : tie.Need-mul-count-block Inv-loop μ-loop
+mul-count-block c = omega arith
+
+sub-count-block : tie.Need-sub-count-block Inv-loop μ-loop
+sub-count-block c = omega arith
+
+part-count-block-start : tie.Need-part-count-block-start Inv-loop μ-loop
+part-count-block-start c = omega arith
+
+part-count-block-end : tie.Need-part-count-block-end Inv-loop μ-loop
+part-count-block-end c = omega arith
+
+count-block-requires : tie.Need-count-block-requires Inv-loop μ-loop
+count-block-requires c κs = simp (length-take, length-drop) (omega arith)
+
+add-counts-requires : tie.Need-add-counts-requires Inv-loop μ-loop
+add-counts-requires c κs =
+    let l = c .before .before .before .before .loop in
+    let f = blocks-few (l .inv) in
+    let e = c .before .before .block-end in
+    let g = block-few _ _ (c .count-block .result) (l .p) (e .result) (omega arith) (omega arith) (c .count-block .ensures) in
+    omega arith
+
+loop-less : tie.Need-loop-less Inv-loop μ-loop
+loop-less c = omega arith
+
+loop-again : tie.Need-loop-again Inv-loop μ-loop
+loop-again c = blocks-more _ (c .before .before .before .before .before .loop .inv) (omega arith) (omega arith) (c .before .count-block .ensures) (c .add-counts .ensures)
+
+returns : tie.Need-returns Inv-loop μ-loop
+returns c = blocks-done (c .before .loop .inv) (c .loop-test .left)
+
+pub count-blocks-spec : {M : Type 1} → statement M
+count-blocks-spec =
+    tie.close
+    (tie.spec
+    Inv-loop
+    μ-loop
+    loop-holds
+    block-end-requires
+    mul-count-block
+    sub-count-block
+    part-count-block-start
+    part-count-block-end
+    count-block-requires
+    add-counts-requires
+    loop-less
+    loop-again
+    returns)

@@ -1,0 +1,122 @@
+-- What the private functions say of themselves: pixels lowered and capped, and bytes put over a buffer. No public contract cites this file.
+use Prim.Native.Nat.{ℕ, _+_, _-_, _*_, _≤_}
+use mathlib.Core.Path.{_≡_}
+use mathlib.Core.Bool.{Bool, true, false}
+use mathlib.Core.List.{List, [], _∷_, _++_, map}
+use lib.ListN.{length, take, drop}
+use lib.Dec.{leb}
+use Rattle.lists.specs.Choose.{if_then_else_}
+use Rattle.lists.specs.Digits.{digitsUpTo, decimal}
+use Rattle.layout.specs.declared.Width.{Width}
+use Rattle.layout.specs.declared.Width.the-variants as W
+use Rattle.layout.specs.declared.Underflow.{Underflow}
+use Rattle.layout.specs.declared.Underflow.the-variants as U
+use Rattle.layout.specs.declared.Form.{Form}
+use Rattle.layout.specs.Form.{widthBytes}
+use Rattle.layout.specs.Layout.{tableBytes}
+use Rattle.table.specs.Writing.{tableOf}
+use Rattle.expand.specs.Steps.{Stored}
+use Rattle.writer.specs.Storing.{only, isUnderflow, storedFor}
+use Rattle.writer.specs.Frame.{cell, underflowText, underflowBytes}
+use Rattle.writer.specs.Writer as M
+use Rattle.writer.specs.declared.BaseAnswer.{BaseAnswer}
+use Rattle.writer.specs.declared.BaseAnswer.the-variants as B
+use Rattle.writer.specs.declared.Counts.{Counts}
+use Rattle.writer.specs.declared.Places.{Places}
+
+-- a pixel less the baseline, 0 where it underflows
+abbrev pub less : ℕ → ℕ → ℕ
+less base v = if leb v base then 0 else v - base
+
+-- at most limit
+abbrev pub capped : ℕ → ℕ → ℕ
+capped limit x = if leb limit x then limit else x
+
+-- bytes put over a buffer from place `at` on
+unfoldable pub over : ℕ → List ℕ → List ℕ → List ℕ
+over at bytes d = take at d ++ (bytes ++ drop (at + length bytes) d)
+
+-- how many pixels underflow, and how many are 255 and 65535 above the baseline
+unfoldable pub countsOf : ℕ → List ℕ → Counts
+unfolding only
+countsOf base vs = record {
+  under = length (only (isUnderflow base) vs);
+  two = length (only (leb (base + 255)) vs);
+  four = length (only (leb (base + 65535)) vs);
+}
+
+-- counts so far, and those of a block
+unfoldable pub countsMore : Counts → Counts → Counts
+countsMore c d = record { under = c .under + d .under; two = c .two + d .two; four = c .four + d .four }
+
+-- kind none has the baseline 0
+abbrev pub usedBase : Underflow → ℕ → ℕ
+usedBase U.None base = 0
+usedBase (U.Subtracted e) base = base
+
+-- the parts of a block, or of all pixels, fit from the places on in a buffer of n bytes
+pub record Room (form : Form) (s : Stored) (at : Places) (n : ℕ) : Type 0 where
+  pub image : at .image + length (s .image) * widthBytes (form .width) ≤ n
+  pub under : at .under + length (s .under) * underflowBytes (form .underflow) ≤ n
+  pub two : at .two + length (s .two) * 2 ≤ n
+  pub four : at .four + length (s .four) * 4 ≤ n
+
+-- a block's parts, each put at its place
+unfoldable pub putBlock : Form → Stored → Places → List ℕ → List ℕ
+unfolding over tableOf
+putBlock form s at d =
+    over (at .image) (tableOf (widthBytes (form .width)) (s .image))
+    (over (at .four) (tableOf 4 (s .four))
+    (over (at .two) (tableOf 2 (s .two))
+    (over (at .under) (tableOf (underflowBytes (form .underflow)) (s .under)) d)))
+
+-- the places behind a block's parts
+unfoldable pub placesAfter : Form → Stored → Places → Places
+placesAfter form s at = record {
+  image = at .image + length (s .image) * widthBytes (form .width);
+  under = at .under + length (s .under) * underflowBytes (form .underflow);
+  two = at .two + length (s .two) * 2;
+  four = at .four + length (s .four) * 4;
+}
+
+-- the entries of each table
+abbrev pub storedCounts : Stored → Counts
+storedCounts s = record { under = length (s .under); two = length (s .two); four = length (s .four) }
+
+-- where the parts of a frame of n pixels start, behind a header of so many bytes
+unfoldable pub placesBy : ℕ → ℕ → Form → Counts → Places
+unfolding tableBytes
+placesBy start n form c = record {
+  image = start;
+  under = start + n * widthBytes (form .width);
+  two = start + n * widthBytes (form .width) + tableBytes (underflowBytes (form .underflow)) (c .under);
+  four = start + n * widthBytes (form .width) + tableBytes (underflowBytes (form .underflow)) (c .under) + tableBytes 2 (c .two);
+}
+
+abbrev pub placesFor : ℕ → Form → Stored → Places
+placesFor start form s = placesBy start (length (s .image)) form (storedCounts s)
+
+-- the counts that a form has entries for
+abbrev pub underCount : Underflow → ℕ → ℕ
+underCount U.None n = 0
+underCount (U.Subtracted e) n = n
+
+abbrev pub twoCount : Width → ℕ → ℕ
+twoCount W.One n = n
+twoCount W.Two n = 0
+twoCount W.Four n = 0
+
+abbrev pub fourCount : Width → ℕ → ℕ
+fourCount W.One n = n
+fourCount W.Two n = n
+fourCount W.Four n = 0
+
+-- the data of NOVERFL for these counts
+unfoldable pub countsData : Underflow → Counts → List ℕ
+unfolding cell digitsUpTo
+countsData u c = cell (underflowText u (c .under)) ++ (cell (decimal (c .two)) ++ cell (decimal (c .four)))
+
+-- a baseline as it is answered
+abbrev pub baseAnswer : M.Base → BaseAnswer
+baseAnswer (M.base b) = B.Given b
+baseAnswer M.noBase = B.Missing
