@@ -3,3 +3,4 @@ pub mod Over
 pub mod Placing
 pub mod Cells
 pub mod Judging
+pub mod Whole

@@ -11,6 +11,10 @@ use Rattle.layout.specs.declared.Width.{Width}
 use Rattle.layout.specs.declared.Width.the-variants as W
 use Rattle.layout.specs.declared.Underflow.{Underflow}
 use Rattle.layout.specs.declared.Underflow.the-variants as U
+use Rattle.layout.specs.declared.Underflows.{Underflows}
+use Rattle.layout.specs.declared.Underflows.the-variants as H
+use Rattle.layout.specs.declared.Tables.{Tables}
+use Rattle.layout.specs.declared.Tables.the-variants as T
 use Rattle.layout.specs.declared.Form.{Form}
 use Rattle.layout.specs.Form.{widthBytes}
 use Rattle.layout.specs.Layout.{tableBytes}
@@ -120,3 +124,20 @@ countsData u c = cell (underflowText u (c .under)) ++ (cell (decimal (c .two)) +
 abbrev pub baseAnswer : M.Base → BaseAnswer
 baseAnswer (M.base b) = B.Given b
 baseAnswer M.noBase = B.Missing
+
+-- the baseline that a header states, 0 where it states none
+abbrev pub givenBaseline : Underflows → ℕ
+givenBaseline H.Unused = 0
+givenBaseline (H.NoWidth b) = b
+givenBaseline (H.Counted e n b) = b
+
+abbrev pub tablesBaseline : Tables → ℕ
+tablesBaseline (T.Format86 n) = 0
+tablesBaseline (T.Format100 t) = givenBaseline (t .underflows)
+
+-- what the functions on an accepted header may rely on: its length, the number of pixels and the baseline
+pub record Sized (header pixels : List ℕ) (baseline : ℕ) : Type 0 where
+  pub long : 3200 ≤ length header
+  pub short : length header ≤ 32768
+  pub few : length pixels ≤ 16777216
+  pub low : baseline ≤ 65535

@@ -15,15 +15,19 @@ ghost use Rattle.layout.specs.Form.{widthBytes};
 ghost use Rattle.table.specs.Writing.{tableOf};
 ghost use Rattle.lists.specs.Digits.{digitsUpTo, decimal};
 ghost use Rattle.writer.specs.Storing.{only, isUnderflow, underEntries, twoEntries, fourEntries, storedValue, atMost65535, storedFor};
-ghost use Rattle.writer.specs.Frame.{spaces, cell, underflowText, underflowBytes, noverflData, npixelbData, withData, rewritten, bodyBytes, frameLength};
-ghost use Rattle.writer.specs.Blocks.{less, capped, over, countsOf, countsMore, usedBase, Room, putBlock, placesAfter, placesBy, placesFor, underCount, twoCount, fourCount, countsData, baseAnswer};
-ghost use Rattle.writer.specs.Writer.{anyAbove255, underflowTooLarge, baseFor, lineBase};
+ghost use Rattle.writer.specs.Frame.{spaces, cell, underflowText, underflowBytes, noverflData, npixelbData, withData, rewritten, bodyBytes, frameLength, frameBytes, heldBytes};
+ghost use Rattle.writer.specs.Blocks.{less, capped, over, countsOf, countsMore, usedBase, Room, putBlock, placesAfter, placesBy, placesFor, underCount, twoCount, fourCount, countsData, baseAnswer, storedCounts, givenBaseline, tablesBaseline, Sized};
+ghost use Rattle.writer.specs.Writer.{anyAbove255, underflowTooLarge, baseFor, lineBase, madeOf, madeWith, madeAs, madeFrom, answerOf, outputOf, writeAnswer, writeBytes};
 ghost use Rattle.header.specs.Body.{baselineOf};
+ghost use Rattle.header.specs.Header.{headerOf};
+ghost use Rattle.header.specs.declared.HeaderAnswer.the-variants.{Accepted};
 use header::HeaderAnswer;
 use header::ValueAnswer;
 use header_lines::LineId;
 use layout::EntryWidth;
 use layout::Form;
+use layout::Header;
+use layout::Tables;
 use layout::Underflow;
 use layout::Underflows;
 use layout::Width;
@@ -679,5 +683,122 @@ fn base_for(header: &[u8], h: Underflows, u: Underflow) -> BaseAnswer
             count: _,
             baseline,
         } => BaseAnswer::Given(baseline),
+    }
+}
+
+// The frame in a buffer that holds it, and zeros behind it.
+fn store_frame(
+    header: &[u8],
+    form: Form,
+    base: u32,
+    pixels: &[u32],
+    c: Counts,
+    at: Places,
+    out: &mut [u8],
+)
+    requires { ⌜ (3200 ≤ length (now header)) × (base ≡ usedBase (form .underflow) base) × (c ≡ storedCounts (storedFor form base (now pixels))) × (at ≡ placesFor (length (now header)) form (storedFor form base (now pixels))) × (frameLength (length (now header)) form (storedFor form base (now pixels)) ≤ length (now out)) ⌝ }
+    ensures { λ _. ⌜ now (out .exit) ≡ heldBytes (length (now (out .entry))) (frameBytes (now (header .entry)) form (storedFor form base (now (pixels .entry)))) ⌝ }
+{
+    let start = at.image;
+    let end = at.under;
+    table::fill(&mut out[end..], 0);
+    let mut low = [0u32; 64];
+    let mut found = [0u32; 64];
+    store_blocks(pixels, form, base, &mut low, &mut found, out, at);
+    put_header(header, form, c, &mut out[..start]);
+}
+
+// 17, 18, or the frame of a form with its baseline.
+fn write_form(header: &[u8], form: Form, base: u32, pixels: &[u32], out: &mut [u8]) -> WriteAnswer
+    requires { ⌜ (Sized (now header) (now pixels) base) × (base ≡ usedBase (form .underflow) base) ⌝ }
+    ensures { λ r. ⌜ r ≡ answerOf (length (now (out .entry))) (madeOf (now (header .entry)) form (storedFor form base (now (pixels .entry)))) ⌝ }
+    ensures { λ _. ⌜ now (out .exit) ≡ outputOf (now (out .entry)) (madeOf (now (header .entry)) form (storedFor form base (now (pixels .entry)))) ⌝ }
+{
+    let u = form.underflow;
+    if underflow_too_large(u, pixels, base) {
+        return WriteAnswer::Refused(Refusal::UnderflowTooLarge);
+    }
+    let all = count_blocks(pixels, base);
+    let c = counts_for(form, all);
+    let at = places_for(header.len(), pixels.len(), form, c);
+    let end = at.four + padded_bytes(Width::Four, c.four);
+    if out.len() < end {
+        return WriteAnswer::Refused(Refusal::OutputShort);
+    }
+    store_frame(header, form, base, pixels, c, at, out);
+    WriteAnswer::Written { length: end as u64 }
+}
+
+// 16 where the kind wants a baseline that the header does not give.
+fn write_listed(
+    header: &[u8],
+    h: Underflows,
+    form: Form,
+    pixels: &[u32],
+    out: &mut [u8],
+) -> WriteAnswer
+    requires { ⌜ Sized (now header) (now pixels) (givenBaseline h) ⌝ }
+    ensures { λ r. ⌜ r ≡ answerOf (length (now (out .entry))) (madeWith (now (header .entry)) form (now (pixels .entry)) (baseFor (now (header .entry)) h (form .underflow))) ⌝ }
+    ensures { λ _. ⌜ now (out .exit) ≡ outputOf (now (out .entry)) (madeWith (now (header .entry)) form (now (pixels .entry)) (baseFor (now (header .entry)) h (form .underflow))) ⌝ }
+{
+    let u = form.underflow;
+    match base_for(header, h, u) {
+        BaseAnswer::Given(b) => write_form(header, form, b, pixels, out),
+        BaseAnswer::Missing => WriteAnswer::Refused(Refusal::FormUnavailable),
+    }
+}
+
+// 16 for FORMAT 86 and a form that is not listed.
+fn write_as(
+    header: &[u8],
+    tables: Tables,
+    asked: AskedForm,
+    pixels: &[u32],
+    out: &mut [u8],
+) -> WriteAnswer
+    requires { ⌜ Sized (now header) (now pixels) (tablesBaseline tables) ⌝ }
+    ensures { λ r. ⌜ r ≡ answerOf (length (now (out .entry))) (madeAs (now (header .entry)) tables asked (now (pixels .entry))) ⌝ }
+    ensures { λ _. ⌜ now (out .exit) ≡ outputOf (now (out .entry)) (madeAs (now (header .entry)) tables asked (now (pixels .entry))) ⌝ }
+{
+    let Tables::Format100(t) = tables else {
+        return WriteAnswer::Refused(Refusal::FormUnavailable);
+    };
+    let AskedForm::Listed(form) = asked else {
+        return WriteAnswer::Refused(Refusal::FormUnavailable);
+    };
+    let h = t.underflows;
+    write_listed(header, h, form, pixels, out)
+}
+
+// The frame from an accepted header's own bytes, for its N pixels.
+fn write_accepted(
+    given: &[u8],
+    h: Header,
+    pixels: &[u32],
+    asked: AskedForm,
+    out: &mut [u8],
+) -> WriteAnswer
+    requires { ⌜ headerOf (now given) ≡ Accepted h ⌝ }
+    ensures { λ r. ⌜ r ≡ answerOf (length (now (out .entry))) (madeFrom (now (given .entry)) asked (now (pixels .entry)) h) ⌝ }
+    ensures { λ _. ⌜ now (out .exit) ≡ outputOf (now (out .entry)) (madeFrom (now (given .entry)) asked (now (pixels .entry)) h) ⌝ }
+{
+    let image = h.image;
+    let tables = h.tables;
+    let n = layout::pixel_count(image);
+    if pixels.len() < n {
+        return WriteAnswer::Refused(Refusal::PixelArrayShort);
+    }
+    let start = image.start as usize;
+    write_as(&given[..start], tables, asked, &pixels[..n], out)
+}
+
+// The frame of the header's N pixels in the form asked for, at the start of out and zeros behind it.
+pub fn write(header: &[u8], pixels: &[u32], asked: AskedForm, out: &mut [u8]) -> WriteAnswer
+    ensures { λ r. ⌜ r ≡ writeAnswer (now (header .entry)) asked (now (pixels .entry)) (length (now (out .entry))) ⌝ }
+    ensures { λ _. ⌜ now (out .exit) ≡ writeBytes (now (header .entry)) asked (now (pixels .entry)) (now (out .entry)) ⌝ }
+{
+    match header::read_header(header) {
+        HeaderAnswer::Accepted(h) => write_accepted(header, h, pixels, asked, out),
+        HeaderAnswer::Refused(r) => WriteAnswer::Refused(r),
     }
 }
