@@ -5,10 +5,16 @@
 #include <stdint.h>
 
 typedef struct { uint32_t refusal, place, column, rows, columns; uint64_t end; } qr_read_answer;
+typedef struct { uint32_t refusal, place, column; uint64_t length; } qr_write_answer;
 typedef struct { uint32_t refusal; uint64_t lines; } qr_ledger_answer;
 
 /* A frame of FORMAT 100 or 86 into pixels. */
 qr_read_answer qr_read(const uint8_t *frame, size_t frame_len, uint32_t *pixels, size_t pixels_len);
+
+/* The frame of pixels from an accepted header, in a form: width 1, 2 or 4; underflow 0 for kind none, 1 or 2 for the baseline
+   subtracted with entries of that many bytes. The rest of out becomes 0. */
+qr_write_answer qr_write(const uint8_t *header, size_t header_len, const uint32_t *pixels, size_t pixels_len,
+                         uint32_t width, uint32_t underflow, uint8_t *out, size_t out_len);
 
 /* A keep line appended to the ledger, of which so many lines are used. */
 qr_ledger_answer qr_keep(uint8_t *ledger, size_t ledger_len, uint64_t lines, uint32_t year, uint32_t month, uint32_t day);

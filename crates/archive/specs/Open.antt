@@ -3,6 +3,7 @@ use Prim.Native.Nat.{ℕ}
 use mathlib.Core.List.{List}
 use lib.ListN.{length}
 use Rattle.refusal.specs.declared.Refusal.{Refusal}
+use Rattle.refusal.specs.declared.Refusal.the-variants.{OutOfRange}
 use Rattle.reader.specs.declared.ReadAnswer.{ReadAnswer}
 use Rattle.reader.specs.declared.ReadAnswer.the-variants as R
 use Rattle.reader.specs.Reader.{readAnswer, readPixels}
@@ -12,6 +13,14 @@ use Rattle.writer.specs.declared.WriteAnswer.the-variants as W
 use Rattle.writer.specs.Writer.{writeAnswer, writeBytes}
 use Rattle.archive.specs.declared.OpenAnswer.{OpenAnswer}
 use Rattle.archive.specs.declared.OpenAnswer.the-variants.{Opened, NotRead, NotWritten}
+
+abbrev pub readRefusal : ReadAnswer → Refusal
+readRefusal (R.Refused r) = r
+readRefusal (R.Frame rows columns end) = OutOfRange
+
+abbrev pub writeRefusal : WriteAnswer → Refusal
+writeRefusal (W.Refused r) = r
+writeRefusal (W.Written n) = OutOfRange
 
 abbrev pub openWith : ℕ → ℕ → ℕ → WriteAnswer → OpenAnswer
 openWith rows columns end (W.Written n) = Opened rows columns end n

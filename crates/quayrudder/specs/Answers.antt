@@ -1,7 +1,22 @@
 -- The C interface's answers: document 01's numbers and values for each case.
 use Prim.Native.Nat.{ℕ}
+use lib.Dec.{eqb}
+use Rattle.lists.specs.Choose.{if_then_else_}
+use Rattle.layout.specs.declared.Width.{Width}
+use Rattle.layout.specs.declared.WidthAnswer.{WidthAnswer}
+use Rattle.layout.specs.declared.WidthAnswer.the-variants as WA
+use Rattle.layout.specs.declared.EntryAnswer.{EntryAnswer}
+use Rattle.layout.specs.declared.EntryAnswer.the-variants as EA
+use Rattle.layout.specs.declared.Underflow.{Underflow}
+use Rattle.layout.specs.declared.Underflow.the-variants as U
+use Rattle.layout.specs.declared.Form.{Form}
+use Rattle.layout.specs.Form.{widthFrom, entryFrom}
+use Rattle.writer.specs.declared.AskedForm.{AskedForm}
+use Rattle.writer.specs.declared.AskedForm.the-variants as A
+use Rattle.writer.specs.declared.WriteAnswer.{WriteAnswer}
+use Rattle.writer.specs.declared.WriteAnswer.the-variants as W
 use Rattle.refusal.specs.declared.Refusal.{Refusal}
-use Rattle.refusal.specs.Codes.{refusalNumber, codeOf}
+use Rattle.refusal.specs.Codes.{refusalNumber, refusalPlace, codeOf}
 use Rattle.calendar.specs.declared.Date.{Date}
 use Rattle.reader.specs.declared.ReadAnswer.{ReadAnswer}
 use Rattle.reader.specs.declared.ReadAnswer.the-variants as R
@@ -10,6 +25,7 @@ use Rattle.ledger.specs.declared.LedgerAnswer.the-variants as L
 use Rattle.ledger.specs.declared.PurgeAnswer.{PurgeAnswer}
 use Rattle.ledger.specs.declared.PurgeAnswer.the-variants as P
 use Rattle.quayrudder.specs.declared.ReadResult.{ReadResult}
+use Rattle.quayrudder.specs.declared.WriteResult.{WriteResult}
 use Rattle.quayrudder.specs.declared.LedgerResult.{LedgerResult}
 
 -- a refusal's number, and its header line or entry
@@ -27,6 +43,29 @@ abbrev pub readResult : ReadAnswer → ReadResult
 readResult (R.Frame rows columns end) =
     record { refusal = 0; place = 0; column = 0; rows = rows; columns = columns; end = end }
 readResult (R.Refused r) = readRefused r
+
+-- underflow 0 is kind none, 1 and 2 the baseline subtracted with entries of that many bytes; any other number is no form
+abbrev pub form : Width → Underflow → Form
+form w u = record { width = w; underflow = u }
+
+abbrev pub byEntry : Width → EntryAnswer → AskedForm
+byEntry w (EA.Listed e) = A.Listed (form w (U.Subtracted e))
+byEntry w EA.Unlisted = A.Unlisted
+
+abbrev pub asForm : Width → ℕ → AskedForm
+asForm w underflow = if eqb underflow 0 then A.Listed (form w U.None) else byEntry w (entryFrom underflow)
+
+abbrev pub byWidth : ℕ → WidthAnswer → AskedForm
+byWidth underflow (WA.Listed w) = asForm w underflow
+byWidth underflow WA.Unlisted = A.Unlisted
+
+abbrev pub askedForm : ℕ → ℕ → AskedForm
+askedForm width underflow = byWidth underflow (widthFrom width)
+
+-- the length of the frame written, or the refusal's number and value
+abbrev pub writeResult : WriteAnswer → WriteResult
+writeResult (W.Written n) = record { refusal = 0; place = 0; column = 0; length = n }
+writeResult (W.Refused r) = record { refusal = refusalNumber r; place = refusalPlace r; column = 0; length = 0 }
 
 -- the new number of lines, and after a refusal the same one
 abbrev pub ledgerResult : ℕ → LedgerAnswer → LedgerResult

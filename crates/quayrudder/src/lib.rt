@@ -1,14 +1,22 @@
 // The C interface: the library's functions under fixed names, with answers as plain numbers.
 use calendar::Date;
+use layout::EntryAnswer;
+use layout::Form;
+use layout::Underflow;
+use layout::Width;
+use layout::WidthAnswer;
 use ledger::LedgerAnswer;
 use ledger::PurgeAnswer;
 use reader::ReadAnswer;
 use refusal::Refusal;
+use writer::AskedForm;
+use writer::WriteAnswer;
 ghost use mathlib.Core.Path.{_≡_};
 ghost use lib.ListN.{length};
 ghost use Rattle.reader.specs.Reader.{readAnswer, readPixels};
 ghost use Rattle.ledger.specs.Ledger.{keepAnswer, keepBytes, purgeAnswer};
-ghost use Rattle.quayrudder.specs.Answers.{readRefused, readResult, ledgerResult, purgeResult, date};
+ghost use Rattle.writer.specs.Writer.{writeAnswer, writeBytes};
+ghost use Rattle.quayrudder.specs.Answers.{readRefused, readResult, asForm, askedForm, writeResult, ledgerResult, purgeResult, date};
 
 // refusal is 0 where the call is accepted. Every field that a case does not name is 0.
 #[repr(C)]
@@ -19,6 +27,14 @@ pub struct ReadResult {
     pub rows: u32,
     pub columns: u32,
     pub end: u64,
+}
+
+#[repr(C)]
+pub struct WriteResult {
+    pub refusal: u32,
+    pub place: u32,
+    pub column: u32,
+    pub length: u64,
 }
 
 #[repr(C)]
@@ -64,6 +80,68 @@ pub extern "C" fn qr_read(frame: &[u8], pixels: &mut [u32]) -> ReadResult
     ensures { λ _. ⌜ now (pixels .exit) ≡ readPixels (now (frame .entry)) (now (pixels .entry)) ⌝ }
 {
     read_result(reader::read(frame, pixels))
+}
+
+fn as_form(width: Width, underflow: u32) -> AskedForm
+    ensures { λ r. ⌜ r ≡ asForm width underflow ⌝ }
+{
+    if underflow == 0 {
+        return AskedForm::Listed(Form {
+            width,
+            underflow: Underflow::None,
+        });
+    }
+    match layout::entry_from(underflow) {
+        EntryAnswer::Listed(e) => AskedForm::Listed(Form {
+            width,
+            underflow: Underflow::Subtracted(e),
+        }),
+        EntryAnswer::Unlisted => AskedForm::Unlisted,
+    }
+}
+
+// The form of a pixel width and an underflow width, where 0 asks for kind none.
+fn asked_form(width: u32, underflow: u32) -> AskedForm
+    ensures { λ r. ⌜ r ≡ askedForm width underflow ⌝ }
+{
+    match layout::width_from(width) {
+        WidthAnswer::Listed(w) => as_form(w, underflow),
+        WidthAnswer::Unlisted => AskedForm::Unlisted,
+    }
+}
+
+fn write_result(answer: WriteAnswer) -> WriteResult
+    ensures { λ r. ⌜ r ≡ writeResult answer ⌝ }
+{
+    match answer {
+        WriteAnswer::Written { length } => WriteResult {
+            refusal: 0,
+            place: 0,
+            column: 0,
+            length,
+        },
+        WriteAnswer::Refused(r) => WriteResult {
+            refusal: refusal::number_of(r),
+            place: refusal::place_of(r),
+            column: 0,
+            length: 0,
+        },
+    }
+}
+
+// Writes a frame of FORMAT 100.
+#[no_mangle]
+pub extern "C" fn qr_write(
+    header: &[u8],
+    pixels: &[u32],
+    width: u32,
+    underflow: u32,
+    out: &mut [u8],
+) -> WriteResult
+    ensures { λ r. ⌜ r ≡ writeResult (writeAnswer (now (header .entry)) (askedForm width underflow) (now (pixels .entry)) (length (now (out .entry)))) ⌝ }
+    ensures { λ _. ⌜ now (out .exit) ≡ writeBytes (now (header .entry)) (askedForm width underflow) (now (pixels .entry)) (now (out .entry)) ⌝ }
+{
+    write_result(writer::write(header, pixels, asked_form(width, underflow), out))
 }
 
 fn ledger_result(lines: u64, answer: LedgerAnswer) -> LedgerResult
