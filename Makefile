@@ -1,5 +1,5 @@
 # Daily work. `make test` is the gate; the rest eases the way there.
-.PHONY: test toolchain check must-fail fmt dev skeletons paths staticlib bench clean
+.PHONY: test toolchain check must-fail fmt dev skeletons paths staticlib bench second-reader compare soak clean
 
 # The whole gate: every crate proved from nothing, every must-fail edit refused, every program's output compared.
 test: toolchain
@@ -41,6 +41,22 @@ staticlib:
 
 bench:
 	$(MAKE) --no-print-directory -C bench run
+
+# The comparison with the second reader (tests/second_reader), over the static library.
+SECOND_READER := target/second_reader/release/second_reader
+COMPARE = $(SECOND_READER) compare $(if $(SEED),--seed $(SEED)) --case target/difference.case
+MINUTES ?= 10
+
+second-reader: staticlib
+	cd tests/second_reader && cargo build --release --offline --target-dir ../../target/second_reader
+
+# make compare SEED=7: 20 seconds, with a new seed where none is given.
+compare: second-reader
+	$(COMPARE) --seconds 20
+
+# make soak MINUTES=10: the same for longer.
+soak: second-reader
+	$(COMPARE) --seconds $$(( $(MINUTES) * 60 ))
 
 clean:
 	rm -rf target

@@ -1,126 +1,22 @@
 /* Times the proved library against plain C by gcc -O3 and clang -O3: the same frames, the same buffers, in turn, best of several. */
-#define _POSIX_C_SOURCE 199309L
-#include "plain.h"
+#include "frames.h"
 #include "quayrudder.h"
 #include <stdio.h>
 #include <stdlib.h>
 #include <string.h>
-#include <time.h>
 
-enum { HEADER = 7680, ROUNDS = 9 };
-
-static uint64_t state = 88172645463325252u;
-static uint32_t rnd(void) {
-    state ^= state << 13;
-    state ^= state >> 7;
-    state ^= state << 17;
-    return (uint32_t)(state >> 16);
-}
-
-static double now(void) {
-    struct timespec t;
-    clock_gettime(CLOCK_MONOTONIC, &t);
-    return t.tv_sec + t.tv_nsec * 1e-9;
-}
-
-static void line(uint8_t *h, int position, const char *text) { memcpy(h + position * 80, text, strlen(text)); }
-
-typedef struct {
-    uint8_t *bytes;
-    size_t length;
-    plain_frame plain;
-    size_t entries_86;
-} frame;
-
-static size_t pad(size_t n, size_t m) { return (n + m - 1) / m * m; }
-
-static void put(uint8_t *p, int w, uint32_t v) {
-    for (int i = 0; i < w; i++) p[i] = (uint8_t)(v >> (8 * i));
-}
-
-/* A frame of counts like a measured one: 0.5% above 255, 0.005% above 65535, and `below` in 1000 at or below the baseline. */
-static frame make(int format, unsigned side, int width, int under_width, unsigned below) {
-    size_t n = (size_t)side * side;
-    uint32_t base = 32;
-    size_t room = HEADER + n * width + pad(n * 2, 16) + pad(n / 16 * 2 + 64, 16) + pad(n / 16 * 4 + 64, 16) + 65536;
-    frame f = { calloc(room, 1), 0, { 0 }, 0 };
-    uint8_t *image = f.bytes + HEADER;
-    uint8_t *under = malloc(n * 2 + 16), *two = malloc(n), *four = malloc(n), *text = malloc(16 * 4096);
-    size_t nu = 0, n2 = 0, n4 = 0, n86 = 0;
-    for (size_t i = 0; i < n; i++) {
-        uint32_t r = rnd() % 1000000, v = 1 + rnd() % 200;
-        if (format == 86) {
-            if (r < 4000.0 * 1000000 / n && n86 < 4000) v = 300 + rnd() % 100000;
-        } else if (r < 50) v = 70000 + rnd() % 100000;
-        else if (r < 5000) v = 256 + rnd() % 60000;
-        if (under_width && rnd() % 1000 < below) {
-            put(under + under_width * nu++, under_width, rnd() % (base + 1));
-            put(image + i * width, width, 0);
-            continue;
-        }
-        if (format == 86) {
-            uint32_t mark = width == 1 ? 255 : 65535;
-            if (width < 4 && v >= mark) {
-                char e[17];
-                snprintf(e, sizeof e, "%9u%7u", v, (unsigned)i);
-                memcpy(text + 16 * n86++, e, 16);
-                v = mark;
-            }
-        } else if (width == 1 && v >= 255) {
-            if (v >= 65535) put(four + 4 * n4++, 4, v);
-            put(two + 2 * n2++, 2, v >= 65535 ? 65535 : v);
-            v = 255;
-        } else if (width == 2 && v >= 65535) {
-            put(four + 4 * n4++, 4, v);
-            v = 65535;
-        }
-        put(image + i * width, width, v);
-    }
-    uint8_t *at = image + n * width;
-    f.plain = (plain_frame){ image, at, 0, 0, n, nu, n2, n4, width, under_width, base };
-    char t[81];
-    memset(f.bytes, ' ', HEADER);
-    line(f.bytes, 1, "VERSION:8");
-    line(f.bytes, 2, "HDRBLKS:15");
-    line(f.bytes, 58, "LINEAR :1 0");
-    line(f.bytes, 79, "NEXP   :1 0 32");
-    snprintf(t, sizeof t, "FORMAT :%d", format), line(f.bytes, 0, t);
-    snprintf(t, sizeof t, "NROWS  :%u", side), line(f.bytes, 40, t);
-    snprintf(t, sizeof t, "NCOLS  :%u", side), line(f.bytes, 41, t);
-    if (format == 86) {
-        memcpy(at, text, 16 * n86), at += pad(16 * n86, 512);
-        f.entries_86 = n86;
-        snprintf(t, sizeof t, "NOVERFL:%zu", n86), line(f.bytes, 20, t);
-        snprintf(t, sizeof t, "NPIXELB:%d", width), line(f.bytes, 39, t);
-    } else {
-        memcpy(at, under, under_width * nu), at += pad(under_width * nu, 16);
-        f.plain.two = at, memcpy(at, two, 2 * n2), at += pad(2 * n2, 16);
-        f.plain.four = at, memcpy(at, four, 4 * n4), at += pad(4 * n4, 16);
-        if (under_width) snprintf(t, sizeof t, "NOVERFL:%zu %zu %zu", nu, n2, n4);
-        else snprintf(t, sizeof t, "NOVERFL:-1 %zu %zu", n2, n4);
-        line(f.bytes, 20, t);
-        snprintf(t, sizeof t, "NPIXELB:%d %d", width, under_width), line(f.bytes, 39, t);
-    }
-    f.length = (size_t)(at - f.bytes);
-    free(under), free(two), free(four), free(text);
-    return f;
-}
-
-static int plain(int compiler, int format, const frame *f, uint32_t *px) {
-    if (format == 86)
-        return compiler ? clang_read_86(&f->plain, f->plain.under, f->entries_86, px) : gcc_read_86(&f->plain, f->plain.under, f->entries_86, px);
-    return compiler ? clang_read_100(&f->plain, px) : gcc_read_100(&f->plain, px);
-}
+/* Short rounds, many of them: on a shared machine some fall into a quiet moment. */
+static int rounds(unsigned side) { return side <= 1024 ? 150 : 15; }
 
 static void row(const char *name, int format, unsigned side, int width, int under_width, unsigned below) {
     frame f = make(format, side, width, under_width, below);
     size_t n = f.plain.pixels;
     uint32_t *px = malloc(n * 4), *expected = malloc(n * 4);
     double best[4] = { 1e9, 1e9, 1e9, 1e9 };
-    int repeat = side <= 1024 ? 16 : 1;
+    int repeat = side <= 512 ? 2 : 1;
     memset(px, 1, n * 4);
     int refused = plain(0, format, &f, expected);
-    for (int round = 0; round < ROUNDS; round++) {
+    for (int round = 0; round < rounds(side); round++) {
         for (int who = 0; who < 4; who++) {
             double t = now();
             for (int k = 0; k < repeat; k++) {
@@ -141,6 +37,39 @@ static void row(const char *name, int format, unsigned side, int width, int unde
     if (refused) exit(1);
 }
 
+static void write_row(const char *name, unsigned side, int width, int under_width, unsigned below) {
+    frame f = make(100, side, width, under_width, below);
+    size_t n = f.plain.pixels;
+    uint32_t *px = malloc(n * 4);
+    int refused = plain(0, 100, &f, px);
+    plain_pixels p = { f.bytes, HEADER, px, n, width, under_width, f.plain.baseline };
+    uint8_t *expected = malloc(f.length), *out = malloc(f.length);
+    double best[4] = { 1e9, 1e9, 1e9, 1e9 };
+    int repeat = side <= 512 ? 2 : 1;
+    if (gcc_write_100(&p, expected) != f.length) refused = 99;
+    for (int round = 0; round < rounds(side); round++) {
+        for (int who = 0; who < 4; who++) {
+            memset(out, 170, f.length);
+            double t = now();
+            for (int k = 0; k < repeat; k++) {
+                if (who == 0) gcc_write_100(&p, out);
+                else if (who == 1) clang_write_100(&p, out);
+                else if (who == 2) refused |= (int)qr_write(f.bytes, f.length, px, n, width, under_width, out, f.length).refusal;
+                else memcpy(out, px, n * width);
+            }
+            t = (now() - t) / repeat;
+            if (t < best[who]) best[who] = t;
+            if (who < 3 && memcmp(out, expected, f.length)) refused = 99;
+        }
+    }
+    double faster = best[0] < best[1] ? best[0] : best[1];
+    printf("| write 100, %s | %4u | %6.3f | %6.3f | %6.3f | %6.3f | %5.2f |%s\n", name, side, best[0] * 1e9 / n, best[1] * 1e9 / n,
+           best[2] * 1e9 / n, best[3] * 1e9 / n, best[2] / faster, refused ? " WRONG" : "");
+    fflush(stdout);
+    free(px), free(expected), free(out), free(f.bytes);
+    if (refused) exit(1);
+}
+
 int main(void) {
     unsigned sides[] = { 512, 1024, 4096 };
     puts("| frame | side | gcc -O3, ns/pixel | clang -O3 | quayrudder | memcpy of the image | ratio to the faster |");
@@ -157,5 +86,14 @@ int main(void) {
         if (side <= 2048) row("width 2, 4,000 entries", 86, side, 2, 0, 0);
     }
     row("width 1, 4,000 entries", 86, 2048, 1, 0, 0);
+    for (int s = 0; s < 3; s++) {
+        unsigned side = sides[s];
+        write_row("width 1, none", side, 1, 0, 0);
+        write_row("width 1, underflows 2, 1% below", side, 1, 2, 10);
+        write_row("width 1, underflows 2, 10% below", side, 1, 2, 100);
+        write_row("width 1, underflows 2, half below", side, 1, 2, 500);
+        write_row("width 2, none", side, 2, 0, 0);
+        write_row("width 4, none", side, 4, 0, 0);
+    }
     return 0;
 }

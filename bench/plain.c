@@ -1,5 +1,6 @@
-/* FORMAT 100 and 86 expanded by plain loops. PREFIX names the compiler that builds this file. */
+/* FORMAT 100 and 86 expanded, and FORMAT 100 written, by plain loops. PREFIX names the compiler that builds this file. */
 #include "plain.h"
+#include <stdio.h>
 #include <string.h>
 
 #define JOIN2(a, b) a##_##b
@@ -83,4 +84,66 @@ int JOIN(PREFIX, read_86)(const plain_frame *f, const uint8_t *table, size_t ent
         pixels[p] = (uint32_t)v;
     }
     return marks == entries ? 0 : 14;
+}
+
+static size_t padded(size_t n) { return (n + 15) / 16 * 16; }
+
+/* Counts once and stores once; the machine is little-endian. */
+static inline __attribute__((always_inline)) size_t store(const plain_pixels *f, int w, int uw, uint8_t *restrict out) {
+    const uint32_t *restrict px = f->values;
+    size_t nu = 0, n2 = 0, n4 = 0, n = f->pixels;
+    uint32_t base = uw ? f->baseline : 0;
+    for (size_t i = 0; i < n; i++) {
+        uint32_t v = px[i];
+        if (uw) {
+            nu += v <= base;
+            v = v <= base ? 0 : v - base;
+        }
+        if (w == 1) n2 += v >= 255;
+        if (w < 4) n4 += v >= 65535;
+    }
+    uint8_t *image = out + f->header_length, *under = image + n * w, *two = under + padded(nu * uw), *four = two + padded(2 * n2);
+    uint8_t *end = four + padded(4 * n4);
+    memset(under + nu * uw, 0, padded(nu * uw) - nu * uw);
+    memset(two + 2 * n2, 0, padded(2 * n2) - 2 * n2);
+    memset(four + 4 * n4, 0, padded(4 * n4) - 4 * n4);
+    for (size_t i = 0; i < n; i++) {
+        uint32_t v = px[i];
+        if (uw) {
+            if (v <= base) {
+                memcpy(under, &v, uw), under += uw;
+                v = 0;
+            } else v -= base;
+        }
+        if (w == 1 && v >= 255) {
+            uint32_t entry = v < 65535 ? v : 65535;
+            memcpy(two, &entry, 2), two += 2;
+        }
+        if (w < 4 && v >= 65535) memcpy(four, &v, 4), four += 4;
+        if (w == 1 && v >= 255) v = 255;
+        if (w == 2 && v >= 65535) v = 65535;
+        memcpy(image + i * w, &v, w);
+    }
+    memcpy(out, f->header, f->header_length);
+    char t[73];
+    if (uw) snprintf(t, sizeof t, "%-24zu%-24zu%-24zu", nu, n2, n4);
+    else snprintf(t, sizeof t, "%-24d%-24zu%-24zu", -1, n2, n4);
+    memcpy(out + 20 * 80 + 8, t, 72);
+    snprintf(t, sizeof t, "%-24d%-48d", w, uw);
+    memcpy(out + 39 * 80 + 8, t, 72);
+    return (size_t)(end - out);
+}
+
+size_t JOIN(PREFIX, write_100)(const plain_pixels *f, uint8_t *out) {
+    switch (f->width * 4 + f->under_width) {
+    case 4: return store(f, 1, 0, out);
+    case 5: return store(f, 1, 1, out);
+    case 6: return store(f, 1, 2, out);
+    case 8: return store(f, 2, 0, out);
+    case 9: return store(f, 2, 1, out);
+    case 10: return store(f, 2, 2, out);
+    case 16: return store(f, 4, 0, out);
+    case 17: return store(f, 4, 1, out);
+    default: return store(f, 4, 2, out);
+    }
 }

@@ -6,6 +6,7 @@
 
 typedef struct { uint32_t refusal, place, column, rows, columns; uint64_t end; } qr_read_answer;
 typedef struct { uint32_t refusal, place, column; uint64_t length; } qr_write_answer;
+typedef struct { uint32_t refusal, place, column, rows, columns; uint64_t end, length; } qr_open_answer;
 typedef struct { uint32_t refusal; uint64_t lines; } qr_ledger_answer;
 
 /* A frame of FORMAT 100 or 86 into pixels. */
@@ -15,6 +16,17 @@ qr_read_answer qr_read(const uint8_t *frame, size_t frame_len, uint32_t *pixels,
    subtracted with entries of that many bytes. The rest of out becomes 0. */
 qr_write_answer qr_write(const uint8_t *header, size_t header_len, const uint32_t *pixels, size_t pixels_len,
                          uint32_t width, uint32_t underflow, uint8_t *out, size_t out_len);
+
+/* A frame read into pixels and written into held, in the form asked for. length: of the frame held; the rest of held becomes 0. */
+qr_open_answer qr_open(const uint8_t *frame, size_t frame_len, uint32_t *pixels, size_t pixels_len,
+                       uint32_t width, uint32_t underflow, uint8_t *held, size_t held_len);
+
+/* One pixel of a held frame set to a count, and a correction line appended to the ledger, of which so many lines are used. */
+qr_ledger_answer qr_correct(uint8_t *held, size_t held_len, uint8_t *ledger, size_t ledger_len,
+                            uint64_t lines, uint64_t pixel, uint32_t count);
+
+/* The last standing line taken back, and a withdrawal line appended. */
+qr_ledger_answer qr_withdraw(uint8_t *held, size_t held_len, uint8_t *ledger, size_t ledger_len, uint64_t lines);
 
 /* A keep line appended to the ledger, of which so many lines are used. */
 qr_ledger_answer qr_keep(uint8_t *ledger, size_t ledger_len, uint64_t lines, uint32_t year, uint32_t month, uint32_t day);

@@ -1,8 +1,8 @@
 -- Document 01, "The ledger" and "Numbers given back": correction and withdrawal, over the held buffer and the ledger.
 use Prim.Native.Nat.{ℕ, _+_}
-use mathlib.Core.Bool.{Bool, true, false, not}
+use mathlib.Core.Bool.{not}
 use mathlib.Core.List.{List}
-use lib.ListN.{length, getD, set}
+use lib.ListN.{length, getD}
 use lib.Dec.{eqb, leb, ltb}
 use Rattle.lists.specs.Choose.{if_then_else_}
 use Rattle.refusal.specs.declared.Refusal.{Refusal}
@@ -18,9 +18,10 @@ use Rattle.ledger.specs.declared.LedgerAnswer.the-variants as L
 use Rattle.ledger.specs.Lines.{linesOf}
 use Rattle.ledger.specs.Standing.{lastStanding, anyLine}
 use Rattle.ledger.specs.Ledger.{ledgerMalformed, ledgerFull, withLine}
-use Rattle.writer.specs.Frame.{heldBytes}
-use Rattle.writer.specs.Writer.{Made, frame, refused, writerFrame}
-use Rattle.readback.specs.Held.{heldCount, heldForm, heldPixels, isHeld}
+use Rattle.lists.specs.Bytes.{heldBytes}
+use Rattle.writer.specs.Writer.{Made, frame, refused}
+use Rattle.readback.specs.Held.{heldCount, heldPixels, isHeld}
+use Rattle.replacement.specs.Replace.{changedFrame}
 
 -- what a call answers, with the held buffer and the ledger after it
 pub record Outcome : Type 0 where
@@ -55,7 +56,7 @@ module _ (held ledger : List ℕ) (lines : ℕ) where
 
   -- the frame held, with another count in one pixel
   abbrev pub changed : ℕ → ℕ → Made
-  changed pixel count = writerFrame held (heldForm held) (set (heldPixels held) pixel count)
+  changed pixel count = changedFrame held pixel count
 
   -- correction: 19, 20, 24, 21, 17, 18
   unfoldable pub correctOutcome : ℕ → ℕ → Outcome

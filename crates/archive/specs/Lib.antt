@@ -1,2 +1,3 @@
 pub mod Open
 pub mod Calls
+pub mod Changes

@@ -12,7 +12,8 @@ use Rattle.layout.specs.declared.Underflows.the-variants.{Unused, NoWidth, Coun
 use Rattle.layout.specs.declared.BinaryTables.{BinaryTables}
 use Rattle.layout.specs.Form.{widthBytes, entryBytes, entryWidth}
 use Rattle.layout.specs.Layout.{pixelCount, tableBytes, underflowCount, underflowWidth}
-use Rattle.expand.specs.Blocks.{stepOf, extentOf, placesOf}
+use Rattle.expand.specs.Blocks.{stepOf}
+use Rattle.expand.specs.Places.{extentOf, placesOf}
 use Rattle.expand.specs.declared.StepC.{StepC}
 use Rattle.expand.specs.declared.Extent.{Extent}
 use Rattle.expand.specs.declared.Places.{Places}

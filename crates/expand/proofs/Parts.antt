@@ -1,12 +1,15 @@
 -- The parts of the bytes that are handed to the steps are the parts of the frame.
 -- Assumes nothing.
 use mathlib.Core.Path.{_≡_, refl, ap, _∙_}
-use mathlib.Core.Bool.{Bool, _&&_}
+use mathlib.Core.Bool.{Bool, true, _&&_}
 use mathlib.Core.List.{List}
 use Prim.Native.Nat.{ℕ, _+_, _*_, _-_, _≤_}
 use native.Mathlib.Omega.{arith}
 use lib.ListN.{length, take, drop, length-drop}
+use lib.Dec.{leb}
 use lib.Seq.{length-take-le}
+use borrow.Author.Tests.{leb-true}
+use Rattle.lists.proofs.Tests.{and-true-left, and-true-right}
 use Rattle.layout.specs.declared.Image.{Image}
 use Rattle.layout.specs.declared.Underflows.{Underflows}
 use Rattle.layout.specs.declared.Underflows.the-variants.{Unused, NoWidth, Counted}
@@ -16,8 +19,9 @@ use Rattle.layout.specs.Layout.{pixelCount, imageBytes, imageEnd, twoStart, fou
 use Rattle.table.specs.Table.{entries, wholeEntries}
 use Rattle.table.proofs.Laws.{entries-take, whole-part}
 use Rattle.expand.specs.Steps.{Stored}
-use Rattle.expand.specs.Expand.{storedOf, tablePaddingZero, paddingZero, appliesC, baselineOf}
-use Rattle.expand.specs.Blocks.{stored, partsOf, stepOf, extentOf, placesOf, gapZero, stepsAnswer, stepsPixels}
+use Rattle.expand.specs.Expand.{storedOf, tablePaddingZero, paddingZero, partsWhole, appliesC, baselineOf}
+use Rattle.expand.specs.Blocks.{stored, partsOf, stepOf, gapZero, stepsAnswer, stepsPixels}
+use Rattle.expand.specs.Places.{extentOf, placesOf}
 use Rattle.expand.specs.declared.StepC.{StepC}
 use Rattle.expand.specs.declared.Places.{Places}
 use Rattle.expand.proofs.Extents.{table-ge, entry-pos}
@@ -139,3 +143,12 @@ module _ (i : Image) (t : BinaryTables) {p : Places} {c : StepC} {n : ℕ} (byte
   pixels-are =
       same-pixels (widthBytes (i .width)) (ap (λ (x : StepC). x .applies) ec ∙ applies-is (t .underflows)) (ap (λ (x : StepC). x .baseline) ec ∙ baseline-is (t .underflows)) en
       (parts-are i t bytes ep ec en h)
+
+-- the parts lie within the bytes
+pub parts-there : (i : Image) (t : BinaryTables) (bytes : List ℕ) → partsWhole bytes i t ≡ true → (pixelCount i ≤ 4294967296) × (binaryEnd i t ≤ length bytes)
+unfolding partsWhole
+parts-there i t bytes h =
+    let a : Bool = leb (pixelCount i) 4294967296 in
+    let b : Bool = leb (binaryEnd i t) (length bytes) in
+    let q : (a && b) ≡ true = and-true-left (a && b) (paddingZero bytes i t) h in
+    (leb-true _ _ (and-true-left a b q), leb-true _ _ (and-true-right a b q))

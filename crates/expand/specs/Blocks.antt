@@ -1,5 +1,5 @@
 -- What the private functions say of themselves: the steps on one block of pixels, and on all blocks so far. No public contract cites this file.
-use Prim.Native.Nat.{ℕ, _+_, _-_, _*_, _%_}
+use Prim.Native.Nat.{ℕ, _+_, _-_, _%_}
 use mathlib.Core.Path.{_≡_}
 use mathlib.Core.Bool.{Bool, true, false, not, _||_}
 use mathlib.Core.List.{List}
@@ -13,7 +13,7 @@ use Rattle.layout.specs.declared.Underflows.{Underflows}
 use Rattle.layout.specs.declared.Underflows.the-variants.{Unused, NoWidth, Counted}
 use Rattle.layout.specs.declared.BinaryTables.{BinaryTables}
 use Rattle.layout.specs.Form.{widthBytes}
-use Rattle.layout.specs.Layout.{imageEnd, tableBytes, underflowCount, underflowWidth, twoStart, fourStart, binaryEnd}
+use Rattle.layout.specs.Layout.{binaryEnd}
 use Rattle.table.specs.Table.{entries, wholeEntries, allZero}
 use Rattle.expand.specs.Steps.{Stored, fillBy, count, anyTooLarge, afterB, afterC, exhausted, takenA, takenB, takenC, sumsTooLarge}
 use Rattle.expand.specs.Expand.{storedOf, paddingZero, appliesC, baselineOf}
@@ -24,7 +24,6 @@ use Rattle.expand.specs.declared.Under.{Under}
 use Rattle.expand.specs.declared.Taken.{Taken}
 use Rattle.expand.specs.declared.StepC.{StepC}
 use Rattle.expand.specs.declared.Extent.{Extent}
-use Rattle.expand.specs.declared.Places.{Places}
 
 abbrev pub stored : List ℕ → List ℕ → List ℕ → List ℕ → Stored
 stored image under two four = record { image = image; under = under; two = two; four = four }
@@ -78,21 +77,6 @@ abbrev pub stepOf : Underflows → StepC
 stepOf Unused = record { applies = false; width = E.One; count = 0; baseline = 0 }
 stepOf (NoWidth b) = record { applies = true; width = E.One; count = 0; baseline = b }
 stepOf (Counted e n b) = record { applies = true; width = e; count = n; baseline = b }
-
--- where a table of n entries of w bytes lies
-unfoldable pub extentOf : ℕ → ℕ → ℕ → Extent
-unfolding tableBytes
-extentOf start w n = record { start = start; padding = start + n * w; end = start + tableBytes w n }
-
--- where the parts of a frame lie
-unfoldable pub placesOf : Image → BinaryTables → Places
-unfolding extentOf
-placesOf i t = record {
-  image = i .start;
-  under = extentOf (imageEnd i) (underflowWidth (t .underflows)) (underflowCount (t .underflows));
-  two = extentOf (twoStart i t) 2 (t .two);
-  four = extentOf (fourStart i t) 4 (t .four);
-}
 
 -- the padding of a table is zero
 abbrev pub gapZero : Extent → List ℕ → Bool

@@ -3,7 +3,7 @@ use Prim.Native.Nat.{ℕ, _+_, _-_, _*_}
 use mathlib.Core.Bool.{Bool, true, false, not, _&&_}
 use mathlib.Core.List.{List, _++_}
 use lib.ListN.{length, take, drop}
-use lib.Dec.{ltb}
+use lib.Dec.{leb, ltb}
 use Rattle.lists.specs.Choose.{if_then_else_}
 use Rattle.lists.specs.Bytes.{zeros}
 use Rattle.refusal.specs.declared.Refusal.the-variants as R
@@ -40,6 +40,11 @@ paddingZero bytes i t =
     tablePaddingZero (underflowWidth (t .underflows)) (underflowCount (t .underflows)) (imageEnd i) bytes
     && tablePaddingZero 2 (t .two) (twoStart i t) bytes
     && tablePaddingZero 4 (t .four) (fourStart i t) bytes
+
+-- the parts of a frame of at most 4,294,967,296 pixels are there, and the padding of each table is zero
+unfoldable pub partsWhole : List ℕ → Image → BinaryTables → Bool
+unfolding paddingZero
+partsWhole bytes i t = leb (pixelCount i) 4294967296 && leb (binaryEnd i t) (length bytes) && paddingZero bytes i t
 
 -- step c applies if the underflow count is not -1
 abbrev pub appliesC : Underflows → Bool

@@ -1,3 +1,4 @@
 pub mod Steps
 pub mod Expand
 pub mod Blocks
+pub mod Places

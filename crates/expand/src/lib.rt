@@ -10,8 +10,10 @@ ghost use Rattle.layout.specs.Form.{widthBytes, entryBytes};
 ghost use Rattle.layout.specs.Layout.{pixelCount, binaryEnd};
 ghost use Rattle.table.specs.Table.{wholeEntries, entries};
 ghost use Rattle.expand.specs.Steps.{fillBy, replace, count, sumTooLarge, anyTooLarge};
-ghost use Rattle.expand.specs.Expand.{binaryAnswer, binaryPixels, firstPixels};
-ghost use Rattle.expand.specs.Blocks.{stored, partsOf, wrapped, Replaced, Lifted, Stepped, Whole, stepOf, extentOf, placesOf, gapZero, stepsAnswer, stepsPixels, frameAnswer};
+ghost use Rattle.expand.specs.Expand.{binaryAnswer, binaryPixels, firstPixels, partsWhole};
+ghost use Rattle.expand.specs.Places.{extentOf, placesOf};
+ghost use Rattle.expand.specs.declared.PartsAnswer.the-variants.{Missing, At};
+ghost use Rattle.expand.specs.Blocks.{stored, partsOf, wrapped, Replaced, Lifted, Stepped, Whole, stepOf, gapZero, stepsAnswer, stepsPixels, frameAnswer};
 use layout::BinaryTables;
 use layout::EntryWidth;
 use layout::Image;
@@ -54,18 +56,24 @@ struct StepC {
 }
 
 // Where a table lies; its entries end where its padding starts.
-struct Extent {
-    start: usize,
-    padding: usize,
-    end: usize,
+pub struct Extent {
+    pub start: usize,
+    pub padding: usize,
+    pub end: usize,
 }
 
 // Where the image starts and the tables lie.
-struct Places {
-    image: usize,
-    under: Extent,
-    two: Extent,
-    four: Extent,
+pub struct Places {
+    pub image: usize,
+    pub under: Extent,
+    pub two: Extent,
+    pub four: Extent,
+}
+
+// Where a frame's parts lie, or that some are not there.
+pub enum PartsAnswer {
+    Missing,
+    At(Places),
 }
 
 // Some byte is `mark`. No early exit, so that the loop is made of vector instructions.
@@ -503,6 +511,28 @@ fn paddings_zero(bytes: &[u8], under: Extent, two: Extent, four: Extent) -> bool
         return false;
     }
     padding_zero(bytes, four)
+}
+
+// Where the parts of a frame lie, if they are there and the padding of each table is zero.
+pub fn parts_of(bytes: &[u8], image: Image, tables: BinaryTables) -> PartsAnswer
+    ensures { λ r. ⌜ r ≡ if_then_else_ (partsWhole (now (bytes .entry)) image tables) (At (placesOf image tables)) Missing ⌝ }
+{
+    let n = layout::pixel_count(image);
+    if 4294967296 < n {
+        return PartsAnswer::Missing;
+    }
+    let p = places_of(image, tables, n);
+    let under = p.under;
+    let two = p.two;
+    let four = p.four;
+    let end = four.end;
+    if bytes.len() < end {
+        return PartsAnswer::Missing;
+    }
+    if !paddings_zero(bytes, under, two, four) {
+        return PartsAnswer::Missing;
+    }
+    PartsAnswer::At(p)
 }
 
 // 12, and then the steps, on exactly the pixels of the image.

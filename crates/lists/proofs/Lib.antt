@@ -4,3 +4,5 @@ pub mod BigEndian
 pub mod Writing
 pub mod Below
 pub mod Parts
+pub mod Same
+pub mod Over

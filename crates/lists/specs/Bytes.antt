@@ -1,7 +1,9 @@
--- Numbers as bytes, in both orders, and padding.
+-- Numbers as bytes, in both orders; padding; bytes in a buffer.
 use Prim.Native.Nat.{ℕ, zero, suc, _+_, _-_, _*_, _/_, _%_}
+use mathlib.Core.Bool.{Bool, true, false, _&&_}
 use mathlib.Core.List.{List, [], _∷_, _++_}
-use lib.ListN.{getD, drop, replicate}
+use lib.ListN.{length, getD, take, drop, replicate}
+use lib.Dec.{eqb}
 
 -- the number in the first w bytes of t, least significant first; a byte past the end counts as 0
 unfoldable pub little : ℕ → List ℕ → ℕ
@@ -34,3 +36,18 @@ zeros n = replicate n 0
 -- the least multiple of m, which is above 0, that is at least n
 unfoldable pub paddedTo : ℕ → ℕ → ℕ
 paddedTo m n = (n + (m - 1)) / m * m
+
+-- bytes put over a buffer from place `at` on
+unfoldable pub over : ℕ → List ℕ → List ℕ → List ℕ
+over at bytes d = take at d ++ (bytes ++ drop (at + length bytes) d)
+
+-- a frame in a buffer of n bytes: the bytes past its end are 0
+unfoldable pub heldBytes : ℕ → List ℕ → List ℕ
+heldBytes n frame = frame ++ zeros (n - length frame)
+
+-- the two lists have the same elements
+unfoldable pub sameBytes : List ℕ → List ℕ → Bool
+sameBytes [] [] = true
+sameBytes [] (b ∷ bs) = false
+sameBytes (a ∷ s) [] = false
+sameBytes (a ∷ s) (b ∷ t) = eqb a b && sameBytes s t

@@ -14,7 +14,7 @@ use Rattle.refusal.specs.declared.Refusal.{Refusal}
 use Rattle.refusal.specs.declared.Refusal.the-variants as R
 use Rattle.writer.specs.declared.AskedForm.the-variants as F
 use Rattle.writer.specs.declared.WriteAnswer.the-variants as W
-use Rattle.writer.specs.Frame.{heldBytes}
+use Rattle.lists.specs.Bytes.{heldBytes}
 use Rattle.writer.specs.Writer as Writer
 use Rattle.writer.specs.Writer.{frame, writerFrame, writeAnswer, answerOf}
 use Rattle.calendar.specs.declared.Date.{Date}

@@ -7,7 +7,7 @@ use Prim.Native.Nat.{ℕ, _*_, _≤_, _<_}
 use lib.ListN.{length, getD, drop}
 use Rattle.layout.specs.declared.Form.{Form}
 use Rattle.writer.specs.declared.AskedForm.the-variants as F
-use Rattle.writer.specs.Frame.{heldBytes}
+use Rattle.lists.specs.Bytes.{heldBytes}
 use Rattle.writer.specs.Writer as Writer
 use Rattle.writer.specs.Writer.{writerFrame}
 use Rattle.ledger.specs.declared.Line.{Line}

@@ -9,7 +9,7 @@ use lib.ListN.{length, getD, set, length-set, length-append, length-replicate}
 use lib.Seq.{getD-set-same, getD-set-other}
 use lib.Dec.{eqb, leb}
 use borrow.Author.Tests.{eqb-true, eqb-false, leb-true, leb-false}
-use Rattle.lists.specs.Bytes.{zeros}
+use Rattle.lists.specs.Bytes.{zeros, heldBytes}
 use Rattle.layout.specs.declared.BinaryTables.{BinaryTables}
 use Rattle.layout.specs.declared.Tables.the-variants as T
 use Rattle.layout.specs.declared.Header.{Header}
@@ -17,7 +17,6 @@ use Rattle.layout.specs.Layout.{pixelCount}
 use Rattle.header.specs.declared.HeaderAnswer.the-variants as A
 use Rattle.header.specs.Header.{headerOf}
 use Rattle.writer.specs.declared.AskedForm.the-variants as F
-use Rattle.writer.specs.Frame.{heldBytes}
 use Rattle.writer.specs.Writer.{frame, writerFrame}
 use Rattle.readback.specs.Held.{heldCount, heldPixels, isHeld}
 use Rattle.readback.proofs.ReadBack.{writer-back}

@@ -31,7 +31,7 @@ use Rattle.writer.specs.declared.AskedForm.{AskedForm}
 use Rattle.writer.specs.declared.AskedForm.the-variants as F
 use Rattle.writer.specs.declared.WriteAnswer.{WriteAnswer}
 use Rattle.writer.specs.declared.WriteAnswer.the-variants as W
-use Rattle.writer.specs.Frame.{heldBytes}
+use Rattle.lists.specs.Bytes.{heldBytes}
 use Rattle.writer.specs.Writer.{Made, frame, refused, madeAs, madeBy, writerFrame, answerOf, outputOf, writeAnswer, writeBytes}
 use Rattle.readback.proofs.Sound.{opening}
 use Rattle.readback.proofs.Reading as reading

@@ -24,7 +24,10 @@ use Rattle.ledger.specs.declared.LedgerAnswer.{LedgerAnswer}
 use Rattle.ledger.specs.declared.LedgerAnswer.the-variants as L
 use Rattle.ledger.specs.declared.PurgeAnswer.{PurgeAnswer}
 use Rattle.ledger.specs.declared.PurgeAnswer.the-variants as P
+use Rattle.archive.specs.declared.OpenAnswer.{OpenAnswer}
+use Rattle.archive.specs.declared.OpenAnswer.the-variants as O
 use Rattle.quayrudder.specs.declared.ReadResult.{ReadResult}
+use Rattle.quayrudder.specs.declared.OpenResult.{OpenResult}
 use Rattle.quayrudder.specs.declared.WriteResult.{WriteResult}
 use Rattle.quayrudder.specs.declared.LedgerResult.{LedgerResult}
 
@@ -66,6 +69,17 @@ askedForm width underflow = byWidth underflow (widthFrom width)
 abbrev pub writeResult : WriteAnswer → WriteResult
 writeResult (W.Written n) = record { refusal = 0; place = 0; column = 0; length = n }
 writeResult (W.Refused r) = record { refusal = refusalNumber r; place = refusalPlace r; column = 0; length = 0 }
+
+-- the frame read and the length of the frame held; a refusal to write leaves what was read
+abbrev pub notOpened : ℕ → ℕ → ℕ → Refusal → OpenResult
+notOpened rows columns end r =
+    record { refusal = refusalNumber r; place = refusalPlace r; column = 0; rows = rows; columns = columns; end = end; length = 0 }
+
+abbrev pub openResult : OpenAnswer → OpenResult
+openResult (O.Opened rows columns end n) =
+    record { refusal = 0; place = 0; column = 0; rows = rows; columns = columns; end = end; length = n }
+openResult (O.NotRead r) = notOpened 0 0 0 r
+openResult (O.NotWritten rows columns end r) = notOpened rows columns end r
 
 -- the new number of lines, and after a refusal the same one
 abbrev pub ledgerResult : ℕ → LedgerAnswer → LedgerResult

@@ -1,4 +1,5 @@
 // The C interface: the library's functions under fixed names, with answers as plain numbers.
+use archive::OpenAnswer;
 use calendar::Date;
 use layout::EntryAnswer;
 use layout::Form;
@@ -16,7 +17,9 @@ ghost use lib.ListN.{length};
 ghost use Rattle.reader.specs.Reader.{readAnswer, readPixels};
 ghost use Rattle.ledger.specs.Ledger.{keepAnswer, keepBytes, purgeAnswer};
 ghost use Rattle.writer.specs.Writer.{writeAnswer, writeBytes};
-ghost use Rattle.quayrudder.specs.Answers.{readRefused, readResult, asForm, askedForm, writeResult, ledgerResult, purgeResult, date};
+ghost use Rattle.archive.specs.Open.{openAnswer, openPixels, openHeld};
+ghost use Rattle.archive.specs.Calls.{correctOutcome, withdrawOutcome};
+ghost use Rattle.quayrudder.specs.Answers.{readRefused, readResult, asForm, askedForm, writeResult, notOpened, openResult, ledgerResult, purgeResult, date};
 
 // refusal is 0 where the call is accepted. Every field that a case does not name is 0.
 #[repr(C)]
@@ -34,6 +37,17 @@ pub struct WriteResult {
     pub refusal: u32,
     pub place: u32,
     pub column: u32,
+    pub length: u64,
+}
+
+#[repr(C)]
+pub struct OpenResult {
+    pub refusal: u32,
+    pub place: u32,
+    pub column: u32,
+    pub rows: u32,
+    pub columns: u32,
+    pub end: u64,
     pub length: u64,
 }
 
@@ -144,6 +158,65 @@ pub extern "C" fn qr_write(
     write_result(writer::write(header, pixels, asked_form(width, underflow), out))
 }
 
+// Nothing is held: what was read, and the refusal.
+fn not_opened(rows: u32, columns: u32, end: u64, r: Refusal) -> OpenResult
+    ensures { λ a. ⌜ a ≡ notOpened rows columns end r ⌝ }
+{
+    OpenResult {
+        refusal: refusal::number_of(r),
+        place: refusal::place_of(r),
+        column: 0,
+        rows,
+        columns,
+        end,
+        length: 0,
+    }
+}
+
+fn open_result(answer: OpenAnswer) -> OpenResult
+    ensures { λ r. ⌜ r ≡ openResult answer ⌝ }
+{
+    match answer {
+        OpenAnswer::Opened {
+            rows,
+            columns,
+            end,
+            length,
+        } => OpenResult {
+            refusal: 0,
+            place: 0,
+            column: 0,
+            rows,
+            columns,
+            end,
+            length,
+        },
+        OpenAnswer::NotRead(r) => not_opened(0, 0, 0, r),
+        OpenAnswer::NotWritten {
+            rows,
+            columns,
+            end,
+            refusal,
+        } => not_opened(rows, columns, end, refusal),
+    }
+}
+
+// Reads a frame, and holds it in the form asked for.
+#[no_mangle]
+pub extern "C" fn qr_open(
+    frame: &[u8],
+    pixels: &mut [u32],
+    width: u32,
+    underflow: u32,
+    held: &mut [u8],
+) -> OpenResult
+    ensures { λ r. ⌜ r ≡ openResult (openAnswer (now (frame .entry)) (now (pixels .entry)) (askedForm width underflow) (length (now (held .entry)))) ⌝ }
+    ensures { λ _. ⌜ now (pixels .exit) ≡ openPixels (now (frame .entry)) (now (pixels .entry)) ⌝ }
+    ensures { λ _. ⌜ now (held .exit) ≡ openHeld (now (frame .entry)) (now (pixels .entry)) (askedForm width underflow) (now (held .entry)) ⌝ }
+{
+    open_result(archive::open(frame, pixels, asked_form(width, underflow), held))
+}
+
 fn ledger_result(lines: u64, answer: LedgerAnswer) -> LedgerResult
     ensures { λ r. ⌜ r ≡ ledgerResult lines answer ⌝ }
 {
@@ -157,6 +230,32 @@ fn ledger_result(lines: u64, answer: LedgerAnswer) -> LedgerResult
             lines,
         },
     }
+}
+
+// Corrects the count of one pixel of a held frame.
+#[no_mangle]
+pub extern "C" fn qr_correct(
+    held: &mut [u8],
+    ledger: &mut [u8],
+    lines: u64,
+    pixel: u64,
+    count: u32,
+) -> LedgerResult
+    ensures { λ r. ⌜ r ≡ ledgerResult lines (correctOutcome (now (held .entry)) (now (ledger .entry)) lines pixel count .answer) ⌝ }
+    ensures { λ _. ⌜ now (held .exit) ≡ correctOutcome (now (held .entry)) (now (ledger .entry)) lines pixel count .held ⌝ }
+    ensures { λ _. ⌜ now (ledger .exit) ≡ correctOutcome (now (held .entry)) (now (ledger .entry)) lines pixel count .ledger ⌝ }
+{
+    ledger_result(lines, archive::correct(held, ledger, lines, pixel, count))
+}
+
+// Takes the last standing line back.
+#[no_mangle]
+pub extern "C" fn qr_withdraw(held: &mut [u8], ledger: &mut [u8], lines: u64) -> LedgerResult
+    ensures { λ r. ⌜ r ≡ ledgerResult lines (withdrawOutcome (now (held .entry)) (now (ledger .entry)) lines .answer) ⌝ }
+    ensures { λ _. ⌜ now (held .exit) ≡ withdrawOutcome (now (held .entry)) (now (ledger .entry)) lines .held ⌝ }
+    ensures { λ _. ⌜ now (ledger .exit) ≡ withdrawOutcome (now (held .entry)) (now (ledger .entry)) lines .ledger ⌝ }
+{
+    ledger_result(lines, archive::withdraw(held, ledger, lines))
 }
 
 // Appends a keep line.

@@ -32,7 +32,7 @@ width-is : (u : Underflow) (b n : ℕ) → underflowWidth (underflowsFor u b n) 
 width-is U.None b n = refl
 width-is (U.Subtracted e) b n = refl
 
-count-is : (u : Underflow) (b : ℕ) (vs : List ℕ) → underflowCount (underflowsFor u b (length (underEntries u b vs))) ≡ length (underEntries u b vs)
+pub count-is : (u : Underflow) (b : ℕ) (vs : List ℕ) → underflowCount (underflowsFor u b (length (underEntries u b vs))) ≡ length (underEntries u b vs)
 count-is U.None b vs = refl
 count-is (U.Subtracted e) b vs = refl
 
@@ -154,7 +154,7 @@ module _ (form : Form) (b rows columns : ℕ) (vs A Z : List ℕ) (all : rows * 
         rw (from-four form s A Z)
         (entries-padded 4 (A ++ (imageOf form s ++ (underOf form s ++ paddedTable 2 (s .two)))) (s .four) Z (fourStart i t) four-at (four-fits form b vs fits))
 
-    stored-read : storedOf bytes i t ≡ s
+    pub stored-read : storedOf bytes i t ≡ s
     unfolding storedOf
     stored-read = λ k. record { image = image-read k; under = under-read k; two = two-read k; four = four-read k }
 

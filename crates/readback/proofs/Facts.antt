@@ -11,7 +11,7 @@ use lib.Dec.{leb, ltb}
 use lib.ListN.{length, take, drop, length-append}
 use lib.Seq.{take-at, take-all}
 use Rattle.lists.specs.Choose.{if_then_else_}
-use Rattle.lists.specs.Bytes.{zeros}
+use Rattle.lists.specs.Bytes.{zeros, heldBytes}
 use Rattle.lists.proofs.Tests.{and-true-right}
 use Rattle.refusal.specs.declared.Refusal.the-variants as R
 use Rattle.layout.specs.declared.Underflow.{Underflow}
@@ -33,7 +33,7 @@ use Rattle.reader.specs.declared.ReadAnswer.the-variants as S
 use Rattle.reader.specs.Reader.{readAnswer, readPixels}
 use Rattle.writer.specs.declared.AskedForm.the-variants as F
 use Rattle.writer.specs.Storing.{storedFor}
-use Rattle.writer.specs.Frame.{underflowBytes, rewritten, bodyBytes, frameBytes, frameLength, heldBytes}
+use Rattle.writer.specs.Frame.{underflowBytes, rewritten, bodyBytes, frameBytes, frameLength}
 use Rattle.writer.specs.Writer.{Made, frame, refused, Base, base, noBase, baseFor, underflowTooLarge, madeWith, writerFrame}
 use Rattle.readback.specs.Written.{Pixels, headerBytes, baseOf, baseNumber, storedIn, underflowsFor, imageFor, tablesFor, headerFor}
 use Rattle.readback.proofs.Storing.{Below, below-all, under-count, two-count, four-count}
@@ -116,7 +116,7 @@ module _ (given : List ℕ) (h : Header) (t : BinaryTables) (e : headerOf given 
   made : Wrote given h t form vs f
   made = wrote given h t form vs f e q all w
 
-  known : Known header (form .underflow) b
+  pub known : Known header (form .underflow) b
   known = base-known header (t .underflows) (form .underflow) b (starts .lines .based t q) (made .based)
 
   few : length vs < 4294967296
@@ -125,7 +125,7 @@ module _ (given : List ℕ) (h : Header) (t : BinaryTables) (e : headerOf given 
   frame-parts : f ≡ new ++ bodyBytes form s
   frame-parts = sym (made .bytes) ∙ frame-is header form s
 
-  held-parts : (n : ℕ) → heldBytes n f ≡ new ++ (bodyBytes form s ++ zeros (n - length f))
+  pub held-parts : (n : ℕ) → heldBytes n f ≡ new ++ (bodyBytes form s ++ zeros (n - length f))
   unfolding heldBytes
   held-parts n = ap (λ (l : List ℕ). l ++ zeros (n - length f)) frame-parts ∙ append-assoc new (bodyBytes form s) _
 
@@ -135,19 +135,19 @@ module _ (given : List ℕ) (h : Header) (t : BinaryTables) (e : headerOf given 
       ∙ header-back given h starts form s (bodyBytes form s ++ zeros (n - length f)) b known
       (omega (arith, few, under-count form b vs)) (omega (arith, few, two-count form b vs)) (omega (arith, few, four-count form b vs))
 
-  start-is : length new ≡ h .image .start
+  pub start-is : length new ≡ h .image .start
   start-is = new-length given h starts form s []
 
-  area : h .image .rows * h .image .columns ≡ length vs
+  pub area : h .image .rows * h .image .columns ≡ length vs
   area = sym all
 
   pixels-fit : Below 4294967296 vs
   pixels-fit = below-all 4294967296 vs fits
 
-  entries-fit : Below (256 ^ underflowBytes (form .underflow)) (s .under)
+  pub entries-fit : Below (256 ^ underflowBytes (form .underflow)) (s .under)
   entries-fit = under-fits header form b vs known (made .small)
 
-  frame-end : binaryEnd (imageFor form (length new) (h .image .rows) (h .image .columns)) (tablesFor form b s) ≡ length f
+  pub frame-end : binaryEnd (imageFor form (length new) (h .image .rows) (h .image .columns)) (tablesFor form b s) ≡ length f
   frame-end =
       sym (end-at form b (h .image .rows) (h .image .columns) vs new [] area)
       ∙ sym (length-append new (bodyBytes form s))

@@ -2,14 +2,13 @@
 -- Assumes nothing.
 use mathlib.Core.Path.{_≡_, refl, sym, ap, _∙_}
 use mathlib.Core.Bool.{true, _&&_}
-use mathlib.Core.List.{List, [], _∷_, _++_, append-nil}
+use mathlib.Core.List.{List, _++_, append-nil}
 use Prim.Native.Nat.{ℕ, _-_}
 use native.Mathlib.Omega.{arith}
-use borrow.Author.Tests.{eq-eqb, eqb-true}
-use lib.Dec.{eqb}
 use lib.ListN.{length, length-append, length-replicate, drop-of-length-le}
-use Rattle.lists.specs.Bytes.{zeros}
-use Rattle.lists.proofs.Tests.{and-true-left, and-true-right}
+use Rattle.lists.specs.Bytes.{zeros, heldBytes}
+use Rattle.lists.proofs.Tests.{and-true-right}
+use Rattle.lists.proofs.Same.{same-refl, same-eq}
 use Rattle.layout.specs.declared.Width.{Width}
 use Rattle.layout.specs.declared.Underflow.{Underflow}
 use Rattle.layout.specs.declared.Underflow.the-variants as U
@@ -22,26 +21,10 @@ use Rattle.header.specs.declared.HeaderAnswer.the-variants as A
 use Rattle.header.specs.Header.{headerOf}
 use Rattle.reader.specs.Reader.{readAnswer, readPixels}
 use Rattle.writer.specs.declared.AskedForm.the-variants as F
-use Rattle.writer.specs.Frame.{heldBytes}
 use Rattle.writer.specs.Writer.{Made, frame, refused, writerFrame}
 use Rattle.readback.specs.Written.{Pixels, underflowsFor}
-use Rattle.readback.specs.Held.{namedBy, heldCount, heldForm, heldPixels, sameBytes, isFrame, isRead, isHeld}
+use Rattle.readback.specs.Held.{namedBy, heldCount, heldForm, heldPixels, isFrame, isRead, isHeld}
 use Rattle.readback.proofs.ReadBack.{header-back, answer-back, pixels-back, frame-back}
-
-pub same-refl : (s : List ℕ) → sameBytes s s ≡ true
-unfolding sameBytes
-same-refl [] = refl
-same-refl (a ∷ s) = rw (eq-eqb a a refl, same-refl s)
-
-pub same-eq : (s t : List ℕ) → sameBytes s t ≡ true → s ≡ t
-unfolding sameBytes
-same-eq [] [] h = refl
-same-eq [] (b ∷ t) h = let z : _≡_ {A = ℕ} 0 1 = cc in absurd (omega arith)
-same-eq (a ∷ s) [] h = let z : _≡_ {A = ℕ} 0 1 = cc in absurd (omega arith)
-same-eq (a ∷ s) (b ∷ t) h =
-    let p : a ≡ b = eqb-true a b (and-true-left (eqb a b) (sameBytes s t) h) in
-    let q : s ≡ t = same-eq s t (and-true-right (eqb a b) (sameBytes s t) h) in
-    λ i. p i ∷ q i
 
 named : (w : Width) (u : Underflow) (b n : ℕ) → namedBy w (underflowsFor u b n) ≡ F.Listed (record { width = w; underflow = u })
 named w U.None b n = refl

@@ -8,7 +8,7 @@ use native.Mathlib.Omega.{arith}
 use lib.Dec.{ltb}
 use lib.ListN.{length, drop, getD, length-replicate, drop-of-length-le}
 use Rattle.lists.specs.Choose.{if_then_else_}
-use Rattle.lists.specs.Bytes.{zeros}
+use Rattle.lists.specs.Bytes.{zeros, heldBytes}
 use Rattle.lists.proofs.Tests.{and-true-left}
 use Rattle.refusal.specs.declared.Refusal.{Refusal}
 use Rattle.refusal.specs.declared.Refusal.the-variants as R
@@ -27,7 +27,6 @@ use Rattle.expand.specs.Expand.{paddingZero, tablesExhausted, baselineTooLarge,
 use Rattle.reader.specs.Reader.{binaryFrame, readAnswer, readPixels}
 use Rattle.writer.specs.declared.AskedForm.{AskedForm}
 use Rattle.writer.specs.declared.AskedForm.the-variants as F
-use Rattle.writer.specs.Frame.{heldBytes}
 use Rattle.writer.specs.Writer.{frame, refused, writerFrame}
 use Rattle.readback.specs.Written.{Pixels}
 use Rattle.readback.specs.Held.{heldCount, heldForm, heldPixels, isRead, isHeld}
@@ -39,12 +38,12 @@ apart : false ≡ true → ⊥
 apart e = let z : _≡_ {A = ℕ} 0 1 = cc in omega arith
 
 -- none of 10 to 15 is due
-record Passed (a b c d e : Bool) : Type 0 where
-  room : a ≡ false
-  whole : b ≡ false
-  padded : c ≡ true
-  taken : d ≡ true
-  small : e ≡ false
+pub record Passed (a b c d e : Bool) : Type 0 where
+  pub room : a ≡ false
+  pub whole : b ≡ false
+  pub padded : c ≡ true
+  pub taken : d ≡ true
+  pub small : e ≡ false
 
 passed : (i : Image) (a b c d e : Bool) (p q r s t : Refusal) (end : ℕ)
     → isRead (binaryFrame i (if_then_else_ a (X.Refused p) (if_then_else_ b (X.Refused q) (if_then_else_ (not c) (X.Refused r) (if_then_else_ (not d) (X.Refused s) (if_then_else_ e (X.Refused t) (X.Frame end))))))) ≡ true
@@ -84,25 +83,34 @@ pub record Opened (held : List ℕ) : Type 0 where
   pub filled : held ≡ heldBytes (length held) bytes
   pub all : length (heldPixels held) ≡ pixelCount (header .image)
 
-count-of : (held : List ℕ) (h : Header) → headerOf held ≡ A.Accepted h → heldCount held ≡ pixelCount (h .image)
+pub count-of : (held : List ℕ) (h : Header) → headerOf held ≡ A.Accepted h → heldCount held ≡ pixelCount (h .image)
 unfolding heldCount
 count-of held h e = rw e
 
-module _ (held : List ℕ) (h : Header) (t : BinaryTables) (e : headerOf held ≡ A.Accepted h) (q : h .tables ≡ T.Format100 t) (i : isHeld held ≡ true) where
+-- a buffer that is read as FORMAT 100
+module _ (held : List ℕ) (h : Header) (t : BinaryTables) (e : headerOf held ≡ A.Accepted h) (q : h .tables ≡ T.Format100 t) (r : isRead (readAnswer held (heldCount held)) ≡ true) where
   read-is : isRead (binaryFrame (h .image) (binaryAnswer held (h .image) t (length (zeros (heldCount held))))) ≡ true
   unfolding readAnswer
-  read-is =
-      let r : isRead (readAnswer held (heldCount held)) ≡ true = and-true-left _ _ (sym (held-is held) ∙ i) in
-      rw length-replicate (rw (e, q) at r)
+  read-is = rw length-replicate (rw (e, q) at r)
 
-  pub pixels-of : heldPixels held ≡ framePixels held (h .image) t
+  pub read-passed : Passed (ltb (length (zeros (heldCount held))) (pixelCount (h .image))) (ltb (length held) (binaryEnd (h .image) t)) (paddingZero held (h .image) t) (tablesExhausted held (h .image) t) (baselineTooLarge held (h .image) t)
+  read-passed = all-passed held (h .image) t (length (zeros (heldCount held))) read-is
+
+  pub pixels-read : heldPixels held ≡ framePixels held (h .image) t
   unfolding readPixels
-  pixels-of =
+  pixels-read =
       held-pixels-are held
       ∙ rw (e, q) (frame-pixels held (h .image) t (zeros (heldCount held)) read-is)
       ∙ ap (λ (l : List ℕ). framePixels held (h .image) t ++ l)
       (drop-of-length-le (zeros (heldCount held)) {i = pixelCount (h .image)} (rw length-replicate (omega (arith, count-of held h e))))
       ∙ append-nil (framePixels held (h .image) t)
+
+module _ (held : List ℕ) (h : Header) (t : BinaryTables) (e : headerOf held ≡ A.Accepted h) (q : h .tables ≡ T.Format100 t) (i : isHeld held ≡ true) where
+  pub read-held : isRead (readAnswer held (heldCount held)) ≡ true
+  read-held = and-true-left _ _ (sym (held-is held) ∙ i)
+
+  pub pixels-of : heldPixels held ≡ framePixels held (h .image) t
+  pixels-of = pixels-read held h t e q read-held
 
   pub pixels-all : length (heldPixels held) ≡ pixelCount (h .image)
   pixels-all = ap length pixels-of ∙ length-frame held (h .image) t
@@ -115,7 +123,7 @@ module _ (held : List ℕ) (h : Header) (t : BinaryTables) (e : headerOf held �
   -- pixels read from bytes have 32 bits
   pub pixels-fit : ((k : ℕ) → getD held k 0 < 256) → Pixels (heldPixels held)
   pixels-fit small =
-      let p = all-passed held (h .image) t (length (zeros (heldCount held))) read-is in
+      let p = read-passed held h t e q read-held in
       subst Pixels (sym pixels-of) (below-get 4294967296 (framePixels held (h .image) t) (omega arith) (frame-below held small (h .image) t (p .small)))
 
 -- a refusal is no frame

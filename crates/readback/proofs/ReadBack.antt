@@ -18,7 +18,8 @@ use Rattle.header.specs.Header.{headerOf}
 use Rattle.reader.specs.declared.ReadAnswer.the-variants as S
 use Rattle.reader.specs.Reader.{readAnswer, readPixels}
 use Rattle.writer.specs.declared.AskedForm.the-variants as F
-use Rattle.writer.specs.Frame.{frameBytes, frameLength, heldBytes}
+use Rattle.lists.specs.Bytes.{heldBytes}
+use Rattle.writer.specs.Frame.{frameBytes, frameLength}
 use Rattle.writer.specs.Writer.{frame, refused, base, noBase, madeWith, writerFrame}
 use Rattle.readback.specs.Written.{Pixels, headerBytes, baseOf, baseNumber, storedIn, headerFor, CanHold}
 use Rattle.readback.proofs.Written.{made-held, held-made, made-refused}

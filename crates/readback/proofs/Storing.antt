@@ -83,7 +83,7 @@ low-plain b v e = let h = leb-false v b e in rw e (λ k. omega arith, omega arit
 a-back : (xs : List ℕ) → fillBy 255 (λ (x : ℕ). x) (map (storedValue W.One) xs) (twoEntries W.One xs) ≡ map atMost65535 xs
 a-back xs = fill-back 255 _ (storedValue W.One) atMost65535 (leb 255) (cap-marked 255) one-plain xs
 
-a-count : (xs : List ℕ) → count 255 (map (storedValue W.One) xs) ≡ length (twoEntries W.One xs)
+pub a-count : (xs : List ℕ) → count 255 (map (storedValue W.One) xs) ≡ length (twoEntries W.One xs)
 a-count xs = count-back 255 (λ (x : ℕ). x) (storedValue W.One) atMost65535 (leb 255) (cap-marked 255) one-plain xs ∙ sym (length-map (only (leb 255) xs) atMost65535)
 
 -- step b of widths 1 and 2
@@ -93,7 +93,7 @@ b-back xs =
     ∙ fill-back 65535 _ atMost65535 (λ (x : ℕ). x) (leb 65535) (cap-marked 65535) (cap-plain 65535) xs
     ∙ map-id xs
 
-b-count : (xs : List ℕ) → count 65535 (map atMost65535 xs) ≡ length (only (leb 65535) xs)
+pub b-count : (xs : List ℕ) → count 65535 (map atMost65535 xs) ≡ length (only (leb 65535) xs)
 b-count xs = count-back 65535 (λ (x : ℕ). x) atMost65535 (λ (x : ℕ). x) (leb 65535) (cap-marked 65535) (cap-plain 65535) xs
 
 -- step c where the baseline is subtracted
@@ -103,7 +103,7 @@ c-back b vs =
     ∙ fill-back 0 _ _ (λ (x : ℕ). x) (isUnderflow b) (low-marked b) (low-plain b) vs
     ∙ map-id vs
 
-c-count : (b : ℕ) (vs : List ℕ) → count 0 (map (λ (v : ℕ). if_then_else_ (leb v b) 0 (v - b)) vs) ≡ length (only (isUnderflow b) vs)
+pub c-count : (b : ℕ) (vs : List ℕ) → count 0 (map (λ (v : ℕ). if_then_else_ (leb v b) 0 (v - b)) vs) ≡ length (only (isUnderflow b) vs)
 c-count b vs = count-back 0 (λ (x : ℕ). x + b) _ (λ (x : ℕ). x) (isUnderflow b) (low-marked b) (low-plain b) vs
 
 -- step c applies to every kind but none

@@ -51,7 +51,7 @@ pub length-padded : (w : ℕ) (vs : List ℕ) → length (paddedTable w vs) ≡ 
 unfolding paddedTable
 length-padded w vs = rw (length-append, length-table, length-replicate) (omega (arith, room w (length vs)))
 
-zero-zeros : (n : ℕ) → allZero (zeros n) ≡ true
+pub zero-zeros : (n : ℕ) → allZero (zeros n) ≡ true
 unfolding allZero
 zero-zeros zero = refl
 zero-zeros (suc n) = zero-zeros n

@@ -2,10 +2,9 @@
 -- that its header names.
 use Prim.Native.Nat.{ℕ}
 use mathlib.Core.Bool.{Bool, true, false, _&&_}
-use mathlib.Core.List.{List, [], _∷_}
+use mathlib.Core.List.{List}
 use lib.ListN.{length}
-use lib.Dec.{eqb}
-use Rattle.lists.specs.Bytes.{zeros}
+use Rattle.lists.specs.Bytes.{zeros, heldBytes, sameBytes}
 use Rattle.layout.specs.declared.Width.{Width}
 use Rattle.layout.specs.declared.Underflow.{Underflow}
 use Rattle.layout.specs.declared.Underflow.the-variants as U
@@ -23,7 +22,6 @@ use Rattle.reader.specs.declared.ReadAnswer.the-variants as R
 use Rattle.reader.specs.Reader.{readAnswer, readPixels}
 use Rattle.writer.specs.declared.AskedForm.{AskedForm}
 use Rattle.writer.specs.declared.AskedForm.the-variants as F
-use Rattle.writer.specs.Frame.{heldBytes}
 use Rattle.writer.specs.Writer.{Made, frame, refused, writerFrame}
 
 -- the form that a header names: -1 is kind none, a count with an underflow width is that kind; a count with the width 0
@@ -61,13 +59,6 @@ heldForm held = formBy (headerOf held)
 unfoldable pub heldPixels : List ℕ → List ℕ
 unfolding heldCount
 heldPixels held = readPixels held (zeros (heldCount held))
-
--- the two lists have the same elements
-unfoldable pub sameBytes : List ℕ → List ℕ → Bool
-sameBytes [] [] = true
-sameBytes [] (b ∷ bs) = false
-sameBytes (a ∷ s) [] = false
-sameBytes (a ∷ s) (b ∷ t) = eqb a b && sameBytes s t
 
 abbrev pub isFrame : List ℕ → Made → Bool
 isFrame held (frame f) = sameBytes held (heldBytes (length held) f)

@@ -21,8 +21,7 @@ use Rattle.layout.specs.Form.{widthBytes}
 use Rattle.header_lines.specs.declared.LineId.{LineId}
 use Rattle.header_lines.specs.declared.LineId.the-variants as I
 use Rattle.header_lines.specs.Lines.{positionOf, lineOf}
-use Rattle.writer.specs.Frame.{spaces, cell, underflowText, underflowBytes, npixelbData, withData}
-use Rattle.writer.specs.Blocks.{countsData}
+use Rattle.writer.specs.Frame.{spaces, cell, underflowText, underflowBytes, npixelbData, withData, countsData}
 use Rattle.writer.specs.declared.Counts.{Counts}
 
 pub digits-le : (k n : ℕ) → length (digitsUpTo k n) ≤ k
@@ -132,3 +131,22 @@ noverfl-is = refl
 pub npixelb-is : positionOf I.Npixelb ≡ 39
 unfolding lineOf
 npixelb-is = refl
+
+three-length : (a b c : List ℕ) → length a ≡ 24 → length b ≡ 24 → length c ≡ 24 → length (a ++ (b ++ c)) ≡ 72
+three-length a b c p q r = rw (length-append, length-append, p, q, r)
+
+pub length-counts : (u : Underflow) (k : Counts) → length (countsData u k) ≡ 72
+unfolding countsData
+length-counts u k =
+    three-length (cell (underflowText u (k .under))) (cell (decimal (k .two))) (cell (decimal (k .four)))
+    (length-cell (underflowText u (k .under)) (text-le u (k .under)))
+    (length-cell (decimal (k .two)) (decimal-le (k .two)))
+    (length-cell (decimal (k .four)) (decimal-le (k .four)))
+
+pub length-npixelb : (form : Form) → length (npixelbData form) ≡ 72
+unfolding npixelbData
+length-npixelb form =
+    three-length (cell (decimal (widthBytes (form .width)))) (cell (decimal (underflowBytes (form .underflow)))) (spaces 24)
+    (length-cell (decimal (widthBytes (form .width))) (decimal-le (widthBytes (form .width))))
+    (length-cell (decimal (underflowBytes (form .underflow))) (decimal-le (underflowBytes (form .underflow))))
+    refl

@@ -11,9 +11,14 @@ use lib.ListN.{length, take, drop, getD, set, length-append, length-set, length-
 use lib.Seq.{take-suc, take-all, take-suc-set, take-set-le, length-take-le, take-add}
 use Rattle.lists.specs.Choose.{if_then_else_}
 use lib.Dec.{leb}
+use borrow.Author.Tests.{leb-true, leb-false}
+use Rattle.layout.specs.declared.Width.{Width}
 use Rattle.layout.specs.declared.Width.the-variants as W
+use Rattle.layout.specs.declared.Underflow.{Underflow}
+use Rattle.layout.specs.declared.Underflow.the-variants as U
+use Rattle.layout.specs.declared.Form.{Form}
 use Rattle.writer.specs.Storing.{only, isUnderflow, storedValue}
-use Rattle.writer.specs.Blocks.{countsOf, countsMore}
+use Rattle.writer.specs.Blocks.{countsOf, countsMore, countsFor, underCount, twoCount, fourCount}
 use Rattle.writer.specs.declared.Counts.{Counts}
 
 pub only-append : (p : ℕ → Bool) (xs ys : List ℕ) → only p (xs ++ ys) ≡ only p xs ++ only p ys
@@ -38,6 +43,22 @@ only-le p (x ∷ xs) = go (p x) (only-le p xs)
 pub only-more : (p : ℕ → Bool) (xs : List ℕ) (i : ℕ) → i < length xs → only p (take (i + 1) xs) ≡ only p (take i xs) ++ if_then_else_ (p (getD xs i 0)) (getD xs i 0 ∷ []) []
 unfolding only
 only-more p xs i h = rw (add-one, take-suc xs i 0 h, only-append)
+
+-- a higher limit passes no more
+only-fewer : (a b : ℕ) (xs : List ℕ) → a ≤ b → length (only (leb b) xs) ≤ length (only (leb a) xs)
+unfolding only
+only-fewer a b [] h = omega arith
+only-fewer a b (x ∷ xs) h = go (leb b x) (leb a x) refl refl (only-fewer a b xs h)
+  where
+    go : (t u : Bool) → leb b x ≡ t → leb a x ≡ u → length (only (leb b) xs) ≤ length (only (leb a) xs)
+        → length (if_then_else_ t (x ∷ only (leb b) xs) (only (leb b) xs)) ≤ length (if_then_else_ u (x ∷ only (leb a) xs) (only (leb a) xs))
+    go true true p q k = omega arith
+    go true false p q k = let l = leb-true b x p in let m = leb-false a x q in absurd (omega arith)
+    go false true p q k = omega arith
+    go false false p q k = k
+
+pub none-above : (a b k : ℕ) (xs : List ℕ) → a ≤ b → k ≡ length (only (leb a) xs) → k ≡ 0 → length (only (leb b) xs) ≡ 0
+none-above a b k xs h e z = omega (arith, only-fewer a b xs h)
 
 choice-length : (t : Bool) (x : ℕ) → length (if_then_else_ t (x ∷ []) []) ≡ if_then_else_ t 1 0
 choice-length true x = refl
@@ -113,21 +134,50 @@ pub take-split : (p e : ℕ) (l : List ℕ) → p ≤ e → take e l ≡ take p 
 take-split p e l h = let n : p + (e - p) ≡ e = omega arith in ap (λ (q : ℕ). take q l) (sym n) ∙ take-add p (e - p) l
 
 -- The loop that counts the blocks.
-pub record Blocks (base : ℕ) (pixels : List ℕ) (c : Counts) (p : ℕ) : Type 0 where
+pub record Blocks (form : Form) (base : ℕ) (pixels : List ℕ) (c : Counts) (p : ℕ) : Type 0 where
   pub upto : p ≤ length pixels
-  pub is : c ≡ countsOf base (take p pixels)
+  pub is : c ≡ countsFor form (countsOf base (take p pixels))
 
-pub blocks-start : (base : ℕ) (pixels : List ℕ) → Blocks base pixels (record { under = 0; two = 0; four = 0 }) 0
-unfolding countsOf
-blocks-start base pixels = record { upto = omega arith; is = refl }
+under-none : (u : Underflow) → underCount u 0 ≡ 0
+under-none U.None = refl
+under-none (U.Subtracted e) = refl
 
-counts-append : (base : ℕ) (xs ys : List ℕ) → countsMore (countsOf base xs) (countsOf base ys) ≡ countsOf base (xs ++ ys)
-unfolding countsMore countsOf
-counts-append base xs ys = rw (only-append (isUnderflow base), only-append (leb (base + 255)), only-append (leb (base + 65535)), length-append, length-append, length-append)
+two-none : (w : Width) → twoCount w 0 ≡ 0
+two-none W.One = refl
+two-none W.Two = refl
+two-none W.Four = refl
 
-pub blocks-more : {base : ℕ} {pixels : List ℕ} {c d r : Counts} {p : ℕ} (e : ℕ) → Blocks base pixels c p → p ≤ e → e ≤ length pixels
-    → d ≡ countsOf base (take (e - p) (drop p pixels)) → r ≡ countsMore c d → Blocks base pixels r e
-blocks-more {base} {pixels} {c} {d} {r} {p} e f h k q s = record {
+four-none : (w : Width) → fourCount w 0 ≡ 0
+four-none W.One = refl
+four-none W.Two = refl
+four-none W.Four = refl
+
+pub blocks-start : (form : Form) (base : ℕ) (pixels : List ℕ) → Blocks form base pixels (record { under = 0; two = 0; four = 0 }) 0
+unfolding countsOf countsFor only
+blocks-start form base pixels = record { upto = omega arith; is = rw (under-none (form .underflow), two-none (form .width), four-none (form .width)) }
+
+under-more : (u : Underflow) (m n : ℕ) → underCount u m + underCount u n ≡ underCount u (m + n)
+under-more U.None m n = refl
+under-more (U.Subtracted e) m n = refl
+
+two-more : (w : Width) (m n : ℕ) → twoCount w m + twoCount w n ≡ twoCount w (m + n)
+two-more W.One m n = refl
+two-more W.Two m n = refl
+two-more W.Four m n = refl
+
+four-more : (w : Width) (m n : ℕ) → fourCount w m + fourCount w n ≡ fourCount w (m + n)
+four-more W.One m n = refl
+four-more W.Two m n = refl
+four-more W.Four m n = refl
+
+counts-append : (form : Form) (base : ℕ) (xs ys : List ℕ) → countsMore (countsFor form (countsOf base xs)) (countsFor form (countsOf base ys)) ≡ countsFor form (countsOf base (xs ++ ys))
+unfolding countsMore countsOf countsFor
+counts-append form base xs ys =
+    rw (under-more (form .underflow), two-more (form .width), four-more (form .width), only-append (isUnderflow base), only-append (leb (base + 255)), only-append (leb (base + 65535)), length-append, length-append, length-append)
+
+pub blocks-more : {form : Form} {base : ℕ} {pixels : List ℕ} {c d r : Counts} {p : ℕ} (e : ℕ) → Blocks form base pixels c p → p ≤ e → e ≤ length pixels
+    → d ≡ countsFor form (countsOf base (take (e - p) (drop p pixels))) → r ≡ countsMore c d → Blocks form base pixels r e
+blocks-more {form} {base} {pixels} {c} {d} {r} {p} e f h k q s = record {
   upto = k;
   is = s ∙ rw (f .is, q, counts-append, ← take-split p e pixels h);
 }
@@ -138,17 +188,37 @@ pub record Few (n : ℕ) (c : Counts) : Type 0 where
   pub two : c .two ≤ n
   pub four : c .four ≤ n
 
-pub counts-few : (base : ℕ) (xs : List ℕ) (c : Counts) → c ≡ countsOf base xs → Few (length xs) c
-unfolding countsOf
-counts-few base xs c e = rw e (record { under = only-le _ xs; two = only-le _ xs; four = only-le _ xs })
+under-few : (u : Underflow) (m n : ℕ) → m ≤ n → underCount u m ≤ n
+under-few U.None m n h = omega arith
+under-few (U.Subtracted e) m n h = h
 
-pub blocks-few : {base : ℕ} {pixels : List ℕ} {c : Counts} {p : ℕ} → Blocks base pixels c p → Few p c
-blocks-few {base} {pixels} {c} {p} f = rw (length-take-le p pixels (f .upto)) at (counts-few base (take p pixels) c (f .is))
+two-few : (w : Width) (m n : ℕ) → m ≤ n → twoCount w m ≤ n
+two-few W.One m n h = h
+two-few W.Two m n h = omega arith
+two-few W.Four m n h = omega arith
 
-pub block-few : (base : ℕ) (pixels : List ℕ) (c : Counts) (p e : ℕ) → p ≤ e → e ≤ length pixels → c ≡ countsOf base (take (e - p) (drop p pixels)) → Few (e - p) c
-block-few base pixels c p e h k q =
+four-few : (w : Width) (m n : ℕ) → m ≤ n → fourCount w m ≤ n
+four-few W.One m n h = h
+four-few W.Two m n h = h
+four-few W.Four m n h = omega arith
+
+counts-few : (form : Form) (base : ℕ) (xs : List ℕ) (c : Counts) → c ≡ countsFor form (countsOf base xs) → Few (length xs) c
+unfolding countsOf countsFor
+counts-few form base xs c e =
+    rw e
+    (record {
+      under = under-few (form .underflow) _ (length xs) (only-le (isUnderflow base) xs);
+      two = two-few (form .width) _ (length xs) (only-le (leb (base + 255)) xs);
+      four = four-few (form .width) _ (length xs) (only-le (leb (base + 65535)) xs);
+    })
+
+pub blocks-few : {form : Form} {base : ℕ} {pixels : List ℕ} {c : Counts} {p : ℕ} → Blocks form base pixels c p → Few p c
+blocks-few {form} {base} {pixels} {c} {p} f = rw (length-take-le p pixels (f .upto)) at (counts-few form base (take p pixels) c (f .is))
+
+pub block-few : (form : Form) (base : ℕ) (pixels : List ℕ) (c : Counts) (p e : ℕ) → p ≤ e → e ≤ length pixels → c ≡ countsFor form (countsOf base (take (e - p) (drop p pixels))) → Few (e - p) c
+block-few form base pixels c p e h k q =
     let l : length (take (e - p) (drop p pixels)) ≡ e - p = simp (length-take, length-drop) (omega arith) in
-    rw l at (counts-few base (take (e - p) (drop p pixels)) c q)
+    rw l at (counts-few form base (take (e - p) (drop p pixels)) c q)
 
-pub blocks-done : {base : ℕ} {pixels : List ℕ} {c : Counts} {p : ℕ} → Blocks base pixels c p → length pixels ≤ p → c ≡ countsOf base pixels
-blocks-done {base} {pixels} {c} {p} f h = rw (take-all p pixels h) at (f .is)
+pub blocks-done : {form : Form} {base : ℕ} {pixels : List ℕ} {c : Counts} {p : ℕ} → Blocks form base pixels c p → length pixels ≤ p → c ≡ countsFor form (countsOf base pixels)
+blocks-done {form} {base} {pixels} {c} {p} f h = rw (take-all p pixels h) at (f .is)

@@ -3,31 +3,33 @@
 use mathlib.Core.Path.{_≡_, refl, sym, ap, _∙_}
 use mathlib.Core.Bool.{Bool, true, false}
 use mathlib.Core.List.{List, [], _∷_, _++_, map, map-append, append-assoc, append-nil}
-use Prim.Native.Nat.{ℕ, zero, suc, _+_, _*_, _-_, _≤_, _<_}
-use native.Mathlib.Nat.{add-zero, add-assoc, add-mul, zero-mul}
+use Prim.Native.Nat.{ℕ, zero, suc, _+_, _*_, _-_, _≤_}
+use native.Mathlib.Nat.{add-mul, zero-mul}
 use native.Mathlib.Omega.{arith}
-use lib.ListN.{length, take, drop, replicate, length-append, length-take, length-drop, length-map, length-replicate, take-append-drop, drop-of-length-le, replicate-append-replicate}
+use lib.ListN.{length, take, drop, length-append, length-take, length-drop, length-map, length-replicate, take-append-drop, drop-of-length-le, replicate-append-replicate}
 use lib.Seq.{drop-drop, length-take-le, take-all}
 use lib.Dec.{leb}
 use borrow.Author.Tests.{leb-true}
 use Rattle.lists.specs.Choose.{if_then_else_}
-use Rattle.lists.specs.Bytes.{zeros}
+use Rattle.lists.specs.Bytes.{zeros, over}
 use Rattle.layout.specs.declared.Width.{Width}
 use Rattle.layout.specs.declared.Width.the-variants as W
 use Rattle.layout.specs.declared.Underflow.{Underflow}
 use Rattle.layout.specs.declared.Underflow.the-variants as U
 use Rattle.layout.specs.declared.Form.{Form}
-use Rattle.layout.specs.Form.{widthBytes}
+use Rattle.layout.specs.declared.EntryWidth.{EntryWidth}
+use Rattle.layout.specs.Form.{widthBytes, entryBytes}
 use Rattle.layout.specs.Layout.{tableBytes}
 use Rattle.table.specs.Writing.{tableOf, paddedTable}
 use Rattle.table.proofs.Storing.{length-table, table-append}
 use Rattle.expand.specs.Steps.{Stored}
 use Rattle.writer.specs.Storing.{only, isUnderflow, lowered, loweredAll, underEntries, twoEntries, fourEntries, atMost65535, storedValue, storedFor}
 use Rattle.writer.specs.Frame.{underflowBytes, bodyBytes, frameLength}
-use Rattle.writer.specs.Blocks.{over, less, usedBase, putBlock, placesAfter, placesBy, placesFor, Room}
+use Rattle.writer.specs.Blocks.{less, usedBase, isPlain, putBlock, putValues, placesAfter, placesPast, placesBy, placesFor, Room, ValuesRoom}
 use Rattle.writer.specs.declared.Places.{Places}
 use Rattle.writer.proofs.Gathering.{only-append, take-split}
-use Rattle.writer.proofs.Over.{over-skip, over-first, over-front, front, length-front}
+use Rattle.writer.proofs.Over.{none-put}
+use Rattle.lists.proofs.Over.{over-skip, over-first, over-front, front, length-front}
 
 -- the bytes ys behind xs in a region r, with one to four regions at hand
 region : (a b xs ys r : List ℕ) (at : ℕ) → at ≡ length a + length xs → length xs + length ys ≤ length r
@@ -352,31 +354,86 @@ pub lowered-is : (u : Underflow) (base : ℕ) (vs : List ℕ) → base ≡ usedB
 lowered-is U.None base vs e = same-none base vs ∙ sym (less-zeros vs) ∙ ap (λ (b : ℕ). map (less b) vs) (sym e)
 lowered-is (U.Subtracted k) base vs e = refl
 
--- A block, from its pixels less the baseline.
-module _ (form : Form) (base : ℕ) (vs low : List ℕ) (at : Places) (known : base ≡ usedBase (form .underflow) base) (el : low ≡ map (less base) vs) where
-  low-is : low ≡ loweredAll form base vs
-  low-is = el ∙ sym (lowered-is (form .underflow) base vs known)
+-- kind none keeps the pixels and has no entry
+pub low-none : (form : Form) (base : ℕ) (vs : List ℕ) → form .underflow ≡ U.None → vs ≡ loweredAll form base vs
+low-none form base vs e = rw e (sym (same-none base vs))
 
-  pub room-two : (n : ℕ) → Room form (storedFor form base vs) at n → at .two + length (twoEntries (form .width) low) * 2 ≤ n
+pub none-under : (form : Form) (base at : ℕ) (vs out : List ℕ) → form .underflow ≡ U.None
+    → (at ≡ at + length (underEntries (form .underflow) base vs) * underflowBytes (form .underflow)) × (out ≡ over at (tableOf (underflowBytes (form .underflow)) (underEntries (form .underflow) base vs)) out)
+none-under form base at vs out e = rw e (none-put at 0 [] out refl)
+
+pub room-under : (form : Form) (base n : ℕ) (vs : List ℕ) (at : Places) (e : EntryWidth) → form .underflow ≡ U.Subtracted e → Room form (storedFor form base vs) at n
+    → at .under + length (only (isUnderflow base) vs) * entryBytes e ≤ n
+unfolding storedFor
+room-under form base n vs at e q r = rw q at (r .under)
+
+-- the values of a block in one width
+pub past-is : (w : Width) (low : List ℕ) (at : Places) (i t f : ℕ) → i ≡ at .image + length low * widthBytes w → t ≡ at .two + length (twoEntries w low) * 2 → f ≡ at .four + length (fourEntries w low) * 4
+    → _≡_ {A = Places} (record { image = i; under = at .under; two = t; four = f }) (placesPast w low at)
+unfolding placesPast
+past-is w low at i t f ei et ef = rw (ei, et, ef)
+
+pub values-are : (w : Width) (low : List ℕ) (at : Places) (out out₁ out₂ out₃ : List ℕ) → out₁ ≡ over (at .two) (tableOf 2 (twoEntries w low)) out → out₂ ≡ over (at .four) (tableOf 4 (fourEntries w low)) out₁
+    → out₃ ≡ over (at .image) (tableOf (widthBytes w) (map (storedValue w) low)) out₂ → out₃ ≡ putValues w low at out
+unfolding putValues
+values-are w low at out out₁ out₂ out₃ e₁ e₂ e₃ = e₃ ∙ rw (e₂, e₁)
+
+-- the same places but for the underflow entries'
+pub record Beside (at at′ : Places) : Type 0 where
+  pub image : at′ .image ≡ at .image
+  pub two : at′ .two ≡ at .two
+  pub four : at′ .four ≡ at .four
+
+-- A block, from its values as the kind has them.
+module _ (form : Form) (base : ℕ) (vs low : List ℕ) (at at′ : Places) (low-is : low ≡ loweredAll form base vs) (beside : Beside at at′) where
+  pub room-values : (m n : ℕ) → m ≡ n → Room form (storedFor form base vs) at n → ValuesRoom (form .width) low at′ m
   unfolding storedFor
-  room-two n r = rw low-is (r .two)
+  room-values m n e r = record {
+    image = rw (e, low-is, beside .image) (rw length-map at (r .image));
+    two = rw (e, low-is, beside .two) (r .two);
+    four = rw (e, low-is, beside .four) (r .four);
+  }
 
-  pub room-four : (n : ℕ) → Room form (storedFor form base vs) at n → at .four + length (fourEntries (form .width) low) * 4 ≤ n
-  unfolding storedFor
-  room-four n r = rw low-is (r .four)
+  pub block-put : (out out₁ out₂ : List ℕ) → out₁ ≡ over (at .under) (tableOf (underflowBytes (form .underflow)) (underEntries (form .underflow) base vs)) out
+      → out₂ ≡ putValues (form .width) low at′ out₁ → out₂ ≡ putBlock form (storedFor form base vs) at out
+  unfolding putBlock putValues storedFor
+  block-put out out₁ out₂ e₁ e₂ = e₂ ∙ rw (e₁, beside .image, beside .two, beside .four, low-is)
 
-  pub room-image : (n : ℕ) → Room form (storedFor form base vs) at n → at .image + length low * widthBytes (form .width) ≤ n
-  unfolding storedFor
-  room-image n r = rw low-is (rw length-map at (r .image))
+  pub block-places : (r : Places) → at′ .under ≡ at .under + length (underEntries (form .underflow) base vs) * underflowBytes (form .underflow)
+      → r ≡ placesPast (form .width) low at′ → r ≡ placesAfter form (storedFor form base vs) at
+  unfolding placesPast placesAfter storedFor
+  block-places r eu e = e ∙ rw (beside .image, beside .two, beside .four, eu, low-is, length-map (loweredAll form base vs) (storedValue (form .width)))
 
-  pub block-put : (out₁ out₂ out₃ out₄ out : List ℕ) → out₁ ≡ over (at .under) (tableOf (underflowBytes (form .underflow)) (underEntries (form .underflow) base vs)) out
-      → out₂ ≡ over (at .two) (tableOf 2 (twoEntries (form .width) low)) out₁ → out₃ ≡ over (at .four) (tableOf 4 (fourEntries (form .width) low)) out₂
-      → out₄ ≡ over (at .image) (tableOf (widthBytes (form .width)) (map (storedValue (form .width)) low)) out₃ → out₄ ≡ putBlock form (storedFor form base vs) at out
-  unfolding putBlock storedFor
-  block-put out₁ out₂ out₃ out₄ out e₁ e₂ e₃ e₄ = e₄ ∙ rw (e₃, e₂, e₁, low-is)
+pub plain-is : (w : Width) (u : Underflow) (r : Bool) → r ≡ isPlain w u → r ≡ true → (w ≡ W.Four) × (u ≡ U.None)
+plain-is W.One u r e t = absurd (let z : _≡_ {A = ℕ} 0 1 = cc in omega arith)
+plain-is W.Two u r e t = absurd (let z : _≡_ {A = ℕ} 0 1 = cc in omega arith)
+plain-is W.Four U.None r e t = (refl, refl)
+plain-is W.Four (U.Subtracted k) r e t = absurd (let z : _≡_ {A = ℕ} 0 1 = cc in omega arith)
 
-  pub block-places : (i u t f : ℕ) → u ≡ at .under + length (underEntries (form .underflow) base vs) * underflowBytes (form .underflow)
-      → t ≡ at .two + length (twoEntries (form .width) low) * 2 → f ≡ at .four + length (fourEntries (form .width) low) * 4
-      → i ≡ at .image + length low * widthBytes (form .width) → _≡_ {A = Places} (record { image = i; under = u; two = t; four = f }) (placesAfter form (storedFor form base vs) at)
-  unfolding placesAfter storedFor
-  block-places i u t f eu et ef ei = rw (eu, et, ef, ei, low-is, length-map (loweredAll form base vs) (storedValue (form .width)))
+-- All pixels as one block, where the kind is none.
+module _ (form : Form) (base : ℕ) (pixels out : List ℕ) (at : Places) (kind : form .underflow ≡ U.None) (places : at ≡ placesFor (at .image) form (storedFor form base pixels))
+    (fit : frameLength (at .image) form (storedFor form base pixels) ≤ length out)
+    (clear : drop (at .image + length (storedFor form base pixels .image) * widthBytes (form .width)) out ≡ zeros (length out - (at .image + length (storedFor form base pixels .image) * widthBytes (form .width)))) where
+  ready : Storing form base pixels out out at at 0
+  ready = record { upto = omega arith; same = refl; is = placed-start form base (storedFor form base pixels) at out places fit clear }
+
+  here : take (length pixels - 0) (drop 0 pixels) ≡ pixels
+  here = take-all (length pixels - 0) pixels (omega arith)
+
+  beside : Beside at at
+  beside = record { image = refl; two = refl; four = refl }
+
+  pub whole-room : ValuesRoom (form .width) pixels at (length out)
+  whole-room =
+      room-values form base pixels pixels at at (low-none form base pixels kind) beside (length out) (length out) refl
+      (rw here at (storing-room (length pixels) ready (omega arith) fit))
+
+  pub whole-put : (out′ : List ℕ) → length out′ ≡ length out → out′ ≡ putValues (form .width) pixels at out
+      → out′ ≡ take (at .image) out ++ (bodyBytes form (storedFor form base pixels) ++ zeros (length out - frameLength (at .image) form (storedFor form base pixels)))
+  whole-put out′ l e =
+      let p : out′ ≡ putBlock form (storedFor form base pixels) at out
+      = block-put form base pixels pixels at at (low-none form base pixels kind) beside out out out′ (none-under form base (at .under) pixels out kind .1) e in
+      storing-done
+      (storing-more (length pixels) (placesAfter form (storedFor form base pixels) at) out′ ready (omega arith) (omega arith) fit l (rw here) (rw here p))
+      (omega arith)
+      fit

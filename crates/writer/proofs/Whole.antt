@@ -12,7 +12,7 @@ use lib.Dec.{leb, ltb}
 use borrow.Author.Tests.{le-leb, lt-leb, leb-true, leb-false}
 use borrow.Rule.Slice.PartMut.{putMid}
 use Rattle.lists.specs.Choose.{if_then_else_}
-use Rattle.lists.specs.Bytes.{zeros}
+use Rattle.lists.specs.Bytes.{zeros, heldBytes}
 use Rattle.lists.specs.Digits.{decimal}
 use Rattle.layout.specs.declared.Width.{Width}
 use Rattle.layout.specs.declared.Width.the-variants as W
@@ -29,8 +29,8 @@ use Rattle.header_lines.specs.declared.LineId.{LineId}
 use Rattle.header_lines.specs.declared.LineId.the-variants as I
 use Rattle.header_lines.specs.Lines.{positionOf}
 use Rattle.writer.specs.Storing.{only, isUnderflow, lowered, loweredAll, underEntries, twoEntries, fourEntries, atMost65535, storedValue, storedFor}
-use Rattle.writer.specs.Frame.{spaces, cell, underflowText, underflowBytes, noverflData, npixelbData, withData, rewritten, bodyBytes, frameBytes, frameLength, heldBytes}
-use Rattle.writer.specs.Blocks.{less, usedBase, countsOf, storedCounts, underCount, twoCount, fourCount, countsData, placesBy, placesFor, baseAnswer, givenBaseline, tablesBaseline, Sized}
+use Rattle.writer.specs.Frame.{underflowBytes, rewritten, relined, bodyBytes, frameBytes, frameLength, storedCounts}
+use Rattle.writer.specs.Blocks.{less, usedBase, countsOf, countsFor, underCount, twoCount, fourCount, placesBy, placesFor, baseAnswer, givenBaseline, tablesBaseline, Sized}
 use Rattle.writer.specs.declared.Counts.{Counts}
 use Rattle.writer.specs.declared.Places.{Places}
 use Rattle.layout.specs.declared.Underflows.{Underflows}
@@ -48,7 +48,7 @@ use Rattle.header.proofs.Accepted.{BaselineGood, TablesGood, accepted-bounds}
 use Rattle.writer.specs.Writer as M
 use Rattle.writer.specs.Writer.{lineBase, baseFor, underflowTooLarge}
 use Rattle.writer.specs.declared.BaseAnswer.the-variants as B
-use Rattle.writer.proofs.Cells.{length-cell, text-le, decimal-le, noverfl-is, npixelb-is}
+use Rattle.writer.proofs.Lines.{relined-stored, length-relined}
 use Rattle.writer.proofs.Placing.{lowered-is}
 
 -- counts
@@ -97,48 +97,20 @@ same-counts : (c d : Counts) → c .under ≡ d .under → c .two ≡ d .two →
 same-counts c d p q r = λ i. record { under = p i; two = q i; four = r i }
 
 -- the counts are those of the entries
-pub counts-are : (form : Form) (base : ℕ) (vs : List ℕ) (all c : Counts) → base ≡ usedBase (form .underflow) base → all ≡ countsOf base vs
-    → (c .under ≡ underCount (form .underflow) (all .under)) × (c .two ≡ twoCount (form .width) (all .two)) × (c .four ≡ fourCount (form .width) (all .four))
-    → c ≡ storedCounts (storedFor form base vs)
-unfolding countsOf storedFor
-counts-are form base vs all c k e p =
+pub counts-are : (form : Form) (base : ℕ) (vs : List ℕ) (c : Counts) → base ≡ usedBase (form .underflow) base → c ≡ countsFor form (countsOf base vs) → c ≡ storedCounts (storedFor form base vs)
+unfolding countsOf countsFor storedFor
+counts-are form base vs c k e =
     let l : loweredAll form base vs ≡ map (less base) vs = lowered-is (form .underflow) base vs k in
     same-counts c (storedCounts (storedFor form base vs))
-    (p .0 ∙ rw e (under-length (form .underflow) base vs))
-    (p .1 ∙ rw (e, l) (two-length (form .width) base vs))
-    (p .2 ∙ rw (e, l) (four-length (form .width) base vs))
+    (ap (λ (n : Counts). n .under) e ∙ under-length (form .underflow) base vs)
+    (ap (λ (n : Counts). n .two) e ∙ rw l (two-length (form .width) base vs))
+    (ap (λ (n : Counts). n .four) e ∙ rw l (four-length (form .width) base vs))
 
 -- lengths
 
-length-with : (id : LineId) (text header : List ℕ) → length text ≡ 72 → positionOf id * 80 + 80 ≤ length header → length (withData id text header) ≡ length header
-unfolding withData
-length-with id text header t h = simp (length-append, length-take, length-drop, t) (omega arith)
-
-three-length : (a b c : List ℕ) → length a ≡ 24 → length b ≡ 24 → length c ≡ 24 → length (a ++ (b ++ c)) ≡ 72
-three-length a b c p q r = rw (length-append, length-append, p, q, r)
-
-length-noverfl : (form : Form) (s : Stored) → length (noverflData form s) ≡ 72
-unfolding noverflData
-length-noverfl form s =
-    three-length (cell (underflowText (form .underflow) (length (s .under)))) (cell (decimal (length (s .two)))) (cell (decimal (length (s .four))))
-    (length-cell (underflowText (form .underflow) (length (s .under))) (text-le (form .underflow) (length (s .under))))
-    (length-cell (decimal (length (s .two))) (decimal-le (length (s .two))))
-    (length-cell (decimal (length (s .four))) (decimal-le (length (s .four))))
-
-length-npixelb : (form : Form) → length (npixelbData form) ≡ 72
-unfolding npixelbData
-length-npixelb form =
-    three-length (cell (decimal (widthBytes (form .width)))) (cell (decimal (underflowBytes (form .underflow)))) (spaces 24)
-    (length-cell (decimal (widthBytes (form .width))) (decimal-le (widthBytes (form .width))))
-    (length-cell (decimal (underflowBytes (form .underflow))) (decimal-le (underflowBytes (form .underflow))))
-    refl
-
 -- the header's length stays
 pub length-rewritten : (form : Form) (s : Stored) (header : List ℕ) → 3200 ≤ length header → length (rewritten form s header) ≡ length header
-unfolding rewritten
-length-rewritten form s header h =
-    let one = length-with I.Noverfl (noverflData form s) header (length-noverfl form s) (rw noverfl-is (omega arith)) in
-    length-with I.Npixelb (npixelbData form) (withData I.Noverfl (noverflData form s) header) (length-npixelb form) (rw (npixelb-is, one) (omega arith)) ∙ one
+length-rewritten form s header h = rw (← relined-stored form s header) (length-relined form (storedCounts s) header h)
 
 length-padded : (w : ℕ) (xs : List ℕ) → length (paddedTable w xs) ≡ tableBytes w (length xs)
 unfolding paddedTable
@@ -159,11 +131,11 @@ length-image form base vs = length-map (loweredAll form base vs) (storedValue (f
 
 -- the header in front of the body
 pub frame-held : (header : List ℕ) (form : Form) (s : Stored) (c : Counts) (n : ℕ) (out : List ℕ) → 3200 ≤ length header → c ≡ storedCounts s
-    → out ≡ withData I.Npixelb (npixelbData form) (withData I.Noverfl (countsData (form .underflow) c) header) ++ (bodyBytes form s ++ zeros (n - frameLength (length header) form s))
+    → out ≡ relined form c header ++ (bodyBytes form s ++ zeros (n - frameLength (length header) form s))
     → out ≡ heldBytes n (frameBytes header form s)
-unfolding heldBytes frameBytes rewritten noverflData countsData
+unfolding heldBytes frameBytes
 frame-held header form s c n out h e q =
-    q ∙ rw (e, ← frame-length header form s h) (sym (append-assoc (rewritten form s header) (bodyBytes form s) (zeros (n - length (frameBytes header form s)))))
+    q ∙ rw (e, relined-stored form s header, ← frame-length header form s h) (sym (append-assoc (rewritten form s header) (bodyBytes form s) (zeros (n - length (frameBytes header form s)))))
 
 -- Where the parts of a frame lie in a buffer that holds it.
 pub record Inside (n start : ℕ) (form : Form) (s : Stored) (at : Places) : Type 0 where
@@ -197,7 +169,7 @@ blocks-ready start form s at out ys k q =
     rw (e, cleared-length out ys (at .under) (k .reach) q) (cleared out ys (at .under) (k .reach) q)
 
 pub held-is : (header : List ℕ) (form : Form) (s : Stored) (c : Counts) (n start : ℕ) (out₁ out₂ front : List ℕ) → 3200 ≤ length header → c ≡ storedCounts s → start ≡ length header → start ≤ length out₁ → length out₁ ≡ n
-    → front ≡ withData I.Npixelb (npixelbData form) (withData I.Noverfl (countsData (form .underflow) c) header)
+    → front ≡ relined form c header
     → out₂ ≡ take start out₁ ++ (bodyBytes form s ++ zeros (length out₁ - frameLength start form s)) → front ++ drop start out₂ ≡ heldBytes n (frameBytes header form s)
 held-is header form s c n start out₁ out₂ front h ec es l m ef e₂ =
     let d : drop start out₂ ≡ bodyBytes form s ++ zeros (n - frameLength (length header) form s)
@@ -217,13 +189,12 @@ pub record Judged (header : List ℕ) (form : Form) (s : Stored) (c : Counts) (a
   pub whole : e ≡ frameLength (length header) form s
   pub end : e ≡ length (frameBytes header form s)
 
-pub judged : (header : List ℕ) (form : Form) (base : ℕ) (vs : List ℕ) (all c : Counts) (at : Places) (r : ℕ) → 3200 ≤ length header → base ≡ usedBase (form .underflow) base → all ≡ countsOf base vs
-    → (c .under ≡ underCount (form .underflow) (all .under)) × (c .two ≡ twoCount (form .width) (all .two)) × (c .four ≡ fourCount (form .width) (all .four))
+pub judged : (header : List ℕ) (form : Form) (base : ℕ) (vs : List ℕ) (c : Counts) (at : Places) (r : ℕ) → 3200 ≤ length header → base ≡ usedBase (form .underflow) base → c ≡ countsFor form (countsOf base vs)
     → at ≡ placesBy (length header) (length vs) form c → r ≡ tableBytes 4 (c .four) → Judged header form (storedFor form base vs) c at (at .four + r)
 unfolding placesBy frameLength
-judged header form base vs all c at r h k ea ec ep er =
+judged header form base vs c at r h k ec ep er =
     let s = storedFor form base vs in
-    let cs : c ≡ storedCounts s = counts-are form base vs all c k ea ec in
+    let cs : c ≡ storedCounts s = counts-are form base vs c k ec in
     let n : length (s .image) ≡ length vs = length-image form base vs in
     let ps : at ≡ placesFor (length header) form s = ep ∙ rw (cs, n) in
     let w : at .four + r ≡ frameLength (length header) form s = rw (er, ps, cs) in
@@ -259,7 +230,7 @@ base-good header H.Unused (U.Subtracted k) b e l = (line-low (baselineOf header)
 base-good header (H.NoWidth n) (U.Subtracted k) b e l = (omega (arith, same-base e), refl)
 base-good header (H.Counted w n m) (U.Subtracted k) b e l = (omega (arith, same-base e), refl)
 
-tables-low : (t : Tables) → TablesGood t → tablesBaseline t ≤ 65535
+pub tables-low : (t : Tables) → TablesGood t → tablesBaseline t ≤ 65535
 unfolding TablesGood
 tables-low (T.Format86 n) g = omega arith
 tables-low (T.Format100 t) g = under-low (t .underflows) g

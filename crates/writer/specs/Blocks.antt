@@ -1,12 +1,11 @@
 -- What the private functions say of themselves: pixels lowered and capped, and bytes put over a buffer. No public contract cites this file.
 use Prim.Native.Nat.{ℕ, _+_, _-_, _*_, _≤_}
-use mathlib.Core.Path.{_≡_}
 use mathlib.Core.Bool.{Bool, true, false}
-use mathlib.Core.List.{List, [], _∷_, _++_, map}
-use lib.ListN.{length, take, drop}
+use mathlib.Core.List.{List, map}
+use lib.ListN.{length}
 use lib.Dec.{leb}
 use Rattle.lists.specs.Choose.{if_then_else_}
-use Rattle.lists.specs.Digits.{digitsUpTo, decimal}
+use Rattle.lists.specs.Bytes.{over}
 use Rattle.layout.specs.declared.Width.{Width}
 use Rattle.layout.specs.declared.Width.the-variants as W
 use Rattle.layout.specs.declared.Underflow.{Underflow}
@@ -20,8 +19,8 @@ use Rattle.layout.specs.Form.{widthBytes}
 use Rattle.layout.specs.Layout.{tableBytes}
 use Rattle.table.specs.Writing.{tableOf}
 use Rattle.expand.specs.Steps.{Stored}
-use Rattle.writer.specs.Storing.{only, isUnderflow, storedFor}
-use Rattle.writer.specs.Frame.{cell, underflowText, underflowBytes}
+use Rattle.writer.specs.Storing.{only, isUnderflow, storedValue, twoEntries, fourEntries}
+use Rattle.writer.specs.Frame.{underflowBytes, storedCounts}
 use Rattle.writer.specs.Writer as M
 use Rattle.writer.specs.declared.BaseAnswer.{BaseAnswer}
 use Rattle.writer.specs.declared.BaseAnswer.the-variants as B
@@ -35,10 +34,6 @@ less base v = if leb v base then 0 else v - base
 -- at most limit
 abbrev pub capped : ℕ → ℕ → ℕ
 capped limit x = if leb limit x then limit else x
-
--- bytes put over a buffer from place `at` on
-unfoldable pub over : ℕ → List ℕ → List ℕ → List ℕ
-over at bytes d = take at d ++ (bytes ++ drop (at + length bytes) d)
 
 -- how many pixels underflow, and how many are 255 and 65535 above the baseline
 unfoldable pub countsOf : ℕ → List ℕ → Counts
@@ -57,6 +52,35 @@ countsMore c d = record { under = c .under + d .under; two = c .two + d .two; fo
 abbrev pub usedBase : Underflow → ℕ → ℕ
 usedBase U.None base = 0
 usedBase (U.Subtracted e) base = base
+
+-- width 4 with kind none, which stores the pixels as they are
+abbrev pub isPlain : Width → Underflow → Bool
+isPlain W.One u = false
+isPlain W.Two u = false
+isPlain W.Four U.None = true
+isPlain W.Four (U.Subtracted e) = false
+
+-- the values of a block in a width, and their entries, fit from the places on in a buffer of n bytes
+pub record ValuesRoom (w : Width) (low : List ℕ) (at : Places) (n : ℕ) : Type 0 where
+  pub image : at .image + length low * widthBytes w ≤ n
+  pub two : at .two + length (twoEntries w low) * 2 ≤ n
+  pub four : at .four + length (fourEntries w low) * 4 ≤ n
+
+-- they are put, each at its place
+unfoldable pub putValues : Width → List ℕ → Places → List ℕ → List ℕ
+unfolding over tableOf only
+putValues w low at d =
+    over (at .image) (tableOf (widthBytes w) (map (storedValue w) low)) (over (at .four) (tableOf 4 (fourEntries w low)) (over (at .two) (tableOf 2 (twoEntries w low)) d))
+
+-- the places behind them
+unfoldable pub placesPast : Width → List ℕ → Places → Places
+unfolding only
+placesPast w low at = record {
+  image = at .image + length low * widthBytes w;
+  under = at .under;
+  two = at .two + length (twoEntries w low) * 2;
+  four = at .four + length (fourEntries w low) * 4;
+}
 
 -- the parts of a block, or of all pixels, fit from the places on in a buffer of n bytes
 pub record Room (form : Form) (s : Stored) (at : Places) (n : ℕ) : Type 0 where
@@ -82,10 +106,6 @@ placesAfter form s at = record {
   two = at .two + length (s .two) * 2;
   four = at .four + length (s .four) * 4;
 }
-
--- the entries of each table
-abbrev pub storedCounts : Stored → Counts
-storedCounts s = record { under = length (s .under); two = length (s .two); four = length (s .four) }
 
 -- where the parts of a frame of n pixels start, behind a header of so many bytes
 unfoldable pub placesBy : ℕ → ℕ → Form → Counts → Places
@@ -115,10 +135,8 @@ fourCount W.One n = n
 fourCount W.Two n = n
 fourCount W.Four n = 0
 
--- the data of NOVERFL for these counts
-unfoldable pub countsData : Underflow → Counts → List ℕ
-unfolding cell digitsUpTo
-countsData u c = cell (underflowText u (c .under)) ++ (cell (decimal (c .two)) ++ cell (decimal (c .four)))
+unfoldable pub countsFor : Form → Counts → Counts
+countsFor form c = record { under = underCount (form .underflow) (c .under); two = twoCount (form .width) (c .two); four = fourCount (form .width) (c .four) }
 
 -- a baseline as it is answered
 abbrev pub baseAnswer : M.Base → BaseAnswer

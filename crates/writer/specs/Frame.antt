@@ -1,9 +1,11 @@
 -- Document 01, "Writing and holding": the bytes of the writer's frame.
 use Prim.Native.Nat.{ℕ, _+_, _-_, _*_}
-use mathlib.Core.List.{List, [], _∷_, _++_}
+use mathlib.Core.Bool.{Bool, _&&_}
+use mathlib.Core.List.{List, _++_}
 use lib.ListN.{length, take, drop, replicate}
+use lib.Dec.{leb}
 use Rattle.lists.specs.Text.{codes}
-use Rattle.lists.specs.Bytes.{zeros}
+use Rattle.lists.specs.Bytes.{sameBytes}
 use Rattle.lists.specs.Digits.{digitsUpTo, decimal}
 use Rattle.layout.specs.declared.Underflow.{Underflow}
 use Rattle.layout.specs.declared.Underflow.the-variants as U
@@ -15,6 +17,7 @@ use Rattle.expand.specs.Steps.{Stored}
 use Rattle.header_lines.specs.declared.LineId.{LineId}
 use Rattle.header_lines.specs.declared.LineId.the-variants as I
 use Rattle.header_lines.specs.Lines.{positionOf}
+use Rattle.writer.specs.declared.Counts.{Counts}
 
 -- so many spaces
 abbrev pub spaces : ℕ → List ℕ
@@ -33,7 +36,16 @@ abbrev pub underflowBytes : Underflow → ℕ
 underflowBytes U.None = 0
 underflowBytes (U.Subtracted e) = entryBytes e
 
--- the data of NOVERFL: three cells
+-- the entries of each table
+abbrev pub storedCounts : Stored → Counts
+storedCounts s = record { under = length (s .under); two = length (s .two); four = length (s .four) }
+
+-- the data of NOVERFL for these counts: three cells
+unfoldable pub countsData : Underflow → Counts → List ℕ
+unfolding cell digitsUpTo
+countsData u c = cell (underflowText u (c .under)) ++ (cell (decimal (c .two)) ++ cell (decimal (c .four)))
+
+-- the data of NOVERFL for what is stored
 unfoldable pub noverflData : Form → Stored → List ℕ
 unfolding cell digitsUpTo
 noverflData form s =
@@ -53,6 +65,21 @@ unfoldable pub rewritten : Form → Stored → List ℕ → List ℕ
 unfolding withData noverflData npixelbData
 rewritten form s header = withData I.Npixelb (npixelbData form) (withData I.Noverfl (noverflData form s) header)
 
+-- the same for given counts
+unfoldable pub relined : Form → Counts → List ℕ → List ℕ
+unfolding withData countsData npixelbData
+relined form c header = withData I.Npixelb (npixelbData form) (withData I.Noverfl (countsData (form .underflow) c) header)
+
+-- the data of a line
+abbrev pub dataOf : LineId → List ℕ → List ℕ
+dataOf id header = take 72 (drop (positionOf id * 80 + 8) header)
+
+-- the two lines are there, as the writer writes them for these counts
+unfoldable pub linesWritten : Form → Counts → List ℕ → Bool
+unfolding sameBytes countsData npixelbData
+linesWritten form c header =
+    leb 3200 (length header) && sameBytes (dataOf I.Noverfl header) (countsData (form .underflow) c) && sameBytes (dataOf I.Npixelb header) (npixelbData form)
+
 -- the image, and the three tables with their padding
 unfoldable pub bodyBytes : Form → Stored → List ℕ
 unfolding tableOf paddedTable
@@ -71,7 +98,3 @@ unfolding tableBytes
 frameLength header form s =
     header + length (s .image) * widthBytes (form .width)
     + tableBytes (underflowBytes (form .underflow)) (length (s .under)) + tableBytes 2 (length (s .two)) + tableBytes 4 (length (s .four))
-
--- a frame in a buffer of n bytes: the bytes past its end are 0
-unfoldable pub heldBytes : ℕ → List ℕ → List ℕ
-heldBytes n frame = frame ++ zeros (n - length frame)

@@ -1,6 +1,6 @@
 -- Document 01, "Writing and holding": pixels to stored values and table entries.
 use Prim.Native.Nat.{ℕ, _-_}
-use mathlib.Core.Bool.{Bool, true, false}
+use mathlib.Core.Bool.{Bool}
 use mathlib.Core.List.{List, [], _∷_, map}
 use lib.Dec.{leb}
 use Rattle.lists.specs.Choose.{if_then_else_}

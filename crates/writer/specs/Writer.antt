@@ -1,6 +1,6 @@
 -- Document 01, "Writing and holding" and "Numbers given back": what writing answers and leaves in the output.
 use Prim.Native.Nat.{ℕ}
-use mathlib.Core.Bool.{Bool, true, false, not, _||_}
+use mathlib.Core.Bool.{Bool, false, not, _||_}
 use mathlib.Core.List.{List, [], _∷_}
 use lib.ListN.{length, take}
 use lib.Dec.{leb, ltb}
@@ -29,7 +29,8 @@ use Rattle.writer.specs.declared.AskedForm.the-variants as F
 use Rattle.writer.specs.declared.WriteAnswer.{WriteAnswer}
 use Rattle.writer.specs.declared.WriteAnswer.the-variants.{Written, Refused}
 use Rattle.writer.specs.Storing.{storedFor}
-use Rattle.writer.specs.Frame.{frameBytes, heldBytes}
+use Rattle.lists.specs.Bytes.{heldBytes}
+use Rattle.writer.specs.Frame.{frameBytes}
 
 -- what the writer makes: a frame, or the refusal that is due, 18 apart
 pub data Made : Type 0 where

@@ -7,16 +7,15 @@ ghost use lib.ListN.{length, take, drop, replicate};
 ghost use lib.Dec.{leb, ltb};
 ghost use Rattle.lists.specs.Choose.{if_then_else_};
 ghost use Rattle.lists.specs.Text.{codes};
-ghost use Rattle.lists.specs.Bytes.{zeros};
-ghost use Rattle.header_lines.specs.Lines.{positionOf};
-ghost use Rattle.header_lines.specs.declared.LineId.the-variants.{Noverfl, Npixelb};
+ghost use Rattle.lists.specs.Bytes.{zeros, heldBytes, over, sameBytes};
 ghost use Rattle.layout.specs.Layout.{tableBytes};
-ghost use Rattle.layout.specs.Form.{widthBytes};
+ghost use Rattle.layout.specs.Form.{widthBytes, entryBytes};
+ghost use Rattle.layout.specs.declared.Width.the-variants.{One, Two, Four};
 ghost use Rattle.table.specs.Writing.{tableOf};
 ghost use Rattle.lists.specs.Digits.{digitsUpTo, decimal};
-ghost use Rattle.writer.specs.Storing.{only, isUnderflow, underEntries, twoEntries, fourEntries, storedValue, atMost65535, storedFor};
-ghost use Rattle.writer.specs.Frame.{spaces, cell, underflowText, underflowBytes, noverflData, npixelbData, withData, rewritten, bodyBytes, frameLength, frameBytes, heldBytes};
-ghost use Rattle.writer.specs.Blocks.{less, capped, over, countsOf, countsMore, usedBase, Room, putBlock, placesAfter, placesBy, placesFor, underCount, twoCount, fourCount, countsData, baseAnswer, storedCounts, givenBaseline, tablesBaseline, Sized};
+ghost use Rattle.writer.specs.Storing.{only, isUnderflow, underEntries, atMost65535, storedFor};
+ghost use Rattle.writer.specs.Frame.{spaces, cell, underflowText, underflowBytes, npixelbData, relined, linesWritten, bodyBytes, frameLength, frameBytes, countsData, storedCounts};
+ghost use Rattle.writer.specs.Blocks.{less, capped, countsOf, countsMore, countsFor, usedBase, isPlain, Room, ValuesRoom, putBlock, putValues, placesAfter, placesPast, placesBy, placesFor, underCount, twoCount, fourCount, baseAnswer, givenBaseline, tablesBaseline, Sized};
 ghost use Rattle.writer.specs.Writer.{anyAbove255, underflowTooLarge, baseFor, lineBase, madeOf, madeWith, madeAs, madeFrom, answerOf, outputOf, writeAnswer, writeBytes};
 ghost use Rattle.header.specs.Body.{baselineOf};
 ghost use Rattle.header.specs.Header.{headerOf};
@@ -52,10 +51,10 @@ enum BaseAnswer {
 }
 
 // How many pixels underflow, and how many are 255 and 65535 above the baseline.
-struct Counts {
-    under: u32,
-    two: u32,
-    four: u32,
+pub struct Counts {
+    pub under: u32,
+    pub two: u32,
+    pub four: u32,
 }
 
 // Where the next stored values and entries go.
@@ -146,16 +145,21 @@ fn less_base(v: u32, base: u32) -> u32
     if v <= base { 0 } else { v - base }
 }
 
-// The pixels less the baseline.
-fn lower(s: &[u32], base: u32, out: &mut [u32])
-    requires { ⌜ length (now s) ≡ length (now out) ⌝ }
+// The pixels less the baseline. The answer: how many underflow.
+fn lower(s: &[u32], base: u32, out: &mut [u32]) -> u32
+    requires { ⌜ (length (now s) ≡ length (now out)) × (length (now s) < 2 ^ 32) ⌝ }
+    ensures { λ r. ⌜ r ≡ length (only (isUnderflow base) (now (s .entry))) ⌝ }
     ensures { λ _. ⌜ now (out .exit) ≡ map (less base) (now (s .entry)) ⌝ }
 {
+    let mut k: u32 = 0;
     let mut i = 0;
     while i < s.len() {
-        out[i] = less_base(s[i], base);
+        let v = s[i];
+        out[i] = less_base(v, base);
+        k += one_if_at_most(v, base);
         i += 1;
     }
+    k
 }
 
 fn at_most(v: u32, limit: u32) -> u32
@@ -175,6 +179,34 @@ fn cap(s: &mut [u32], limit: u32)
     }
 }
 
+// The numbers at most limit each. The answer: how many are limit or more.
+fn cap_into(s: &[u32], limit: u32, out: &mut [u32]) -> u32
+    requires { ⌜ (length (now s) ≡ length (now out)) × (length (now s) < 2 ^ 32) ⌝ }
+    ensures { λ r. ⌜ r ≡ length (only (leb limit) (now (s .entry))) ⌝ }
+    ensures { λ _. ⌜ now (out .exit) ≡ map (capped limit) (now (s .entry)) ⌝ }
+{
+    let mut k: u32 = 0;
+    let mut i = 0;
+    while i < s.len() {
+        let v = s[i];
+        out[i] = at_most(v, limit);
+        k += one_if_from(v, limit);
+        i += 1;
+    }
+    k
+}
+
+// How many numbers are limit or more: none where a lower limit has the count k of 0.
+fn count_above(s: &[u32], k: u32, limit: u32) -> u32
+    requires { ⌜ (length (now s) < 2 ^ 32) × (k ≡ 0 → length (only (leb limit) (now s)) ≡ 0) ⌝ }
+    ensures { λ r. ⌜ r ≡ length (only (leb limit) (now (s .entry))) ⌝ }
+{
+    if k == 0 {
+        return 0;
+    }
+    count_from(s, limit)
+}
+
 fn copy(s: &[u8], out: &mut [u8])
     requires { ⌜ length (now s) ≡ length (now out) ⌝ }
     ensures { λ _. ⌜ now (out .exit) ≡ now (s .entry) ⌝ }
@@ -186,22 +218,59 @@ fn copy(s: &[u8], out: &mut [u8])
     }
 }
 
-// The end of the block that starts at p: a block has 64 pixels.
-fn block_end(p: usize, n: usize) -> usize
-    requires { ⌜ p < n ⌝ }
-    ensures { λ r. ⌜ (p < r) × (r ≤ n) × (r ≤ p + 64) ⌝ }
+// The end of the block that starts at p: a block has `size` pixels, and the last one what is left.
+fn block_end(p: usize, n: usize, size: usize) -> usize
+    requires { ⌜ (p < n) × (0 < size) ⌝ }
+    ensures { λ r. ⌜ (p < r) × (r ≤ n) × (r ≤ p + size) ⌝ }
 {
-    if 64 < n - p { p + 64 } else { n }
+    if size < n - p { p + size } else { n }
 }
 
-// The counts of a block.
-fn count_block(block: &[u32], base: u32) -> Counts
-    requires { ⌜ (length (now block) < 2 ^ 32) × (base ≤ 65535) ⌝ }
-    ensures { λ r. ⌜ r ≡ countsOf base (now (block .entry)) ⌝ }
+// How many underflow entries the kind has for a block.
+fn count_under(block: &[u32], u: Underflow, base: u32) -> u32
+    requires { ⌜ length (now block) < 2 ^ 32 ⌝ }
+    ensures { λ r. ⌜ r ≡ underCount u (length (only (isUnderflow base) (now (block .entry)))) ⌝ }
 {
-    let under = count_at_most(block, base);
-    let two = count_from(block, base + 255);
-    let four = count_from(block, base + 65535);
+    match u {
+        Underflow::None => 0,
+        Underflow::Subtracted(_) => count_at_most(block, base),
+    }
+}
+
+// How many two-byte entries the width has for a block.
+fn count_two(block: &[u32], w: Width, limit: u32) -> u32
+    requires { ⌜ length (now block) < 2 ^ 32 ⌝ }
+    ensures { λ r. ⌜ r ≡ twoCount w (length (only (leb limit) (now (block .entry)))) ⌝ }
+{
+    match w {
+        Width::One => count_from(block, limit),
+        Width::Two => 0,
+        Width::Four => 0,
+    }
+}
+
+// How many four-byte entries the width has for a block that has so many two-byte ones.
+fn count_four(block: &[u32], w: Width, two: u32, base: u32) -> u32
+    requires { ⌜ (length (now block) < 2 ^ 32) × (base ≤ 65535) × (two ≡ twoCount w (length (only (leb (base + 255)) (now block)))) ⌝ }
+    ensures { λ r. ⌜ r ≡ fourCount w (length (only (leb (base + 65535)) (now (block .entry)))) ⌝ }
+{
+    match w {
+        Width::One => count_above(block, two, base + 65535),
+        Width::Two => count_from(block, base + 65535),
+        Width::Four => 0,
+    }
+}
+
+// The counts of a block, as far as the form has entries for them.
+fn count_block(block: &[u32], form: Form, base: u32) -> Counts
+    requires { ⌜ (length (now block) < 2 ^ 32) × (base ≤ 65535) ⌝ }
+    ensures { λ r. ⌜ r ≡ countsFor form (countsOf base (now (block .entry))) ⌝ }
+{
+    let u = form.underflow;
+    let w = form.width;
+    let under = count_under(block, u, base);
+    let two = count_two(block, w, base + 255);
+    let four = count_four(block, w, two, base);
     Counts { under, two, four }
 }
 
@@ -216,11 +285,24 @@ fn add_counts(c: Counts, d: Counts) -> Counts
     }
 }
 
-// The counts of all pixels, in one pass.
-fn count_blocks(pixels: &[u32], base: u32) -> Counts
-    requires { ⌜ (length (now pixels) < 2 ^ 32) × (base ≤ 65535) ⌝ }
-    ensures { λ r. ⌜ r ≡ countsOf base (now (pixels .entry)) ⌝ }
+// The pixels of a block that is counted: few where a second count is spared by a block without two-byte entries.
+fn counted_at_once(w: Width) -> usize
+    ensures { λ r. ⌜ 0 < r ⌝ }
 {
+    match w {
+        Width::One => 64,
+        Width::Two => 1024,
+        Width::Four => 1024,
+    }
+}
+
+// The counts of all pixels, in one pass.
+fn count_blocks(pixels: &[u32], form: Form, base: u32) -> Counts
+    requires { ⌜ (length (now pixels) < 2 ^ 32) × (base ≤ 65535) ⌝ }
+    ensures { λ r. ⌜ r ≡ countsFor form (countsOf base (now (pixels .entry))) ⌝ }
+{
+    let w = form.width;
+    let size = counted_at_once(w);
     let mut c = Counts {
         under: 0,
         two: 0,
@@ -228,8 +310,8 @@ fn count_blocks(pixels: &[u32], base: u32) -> Counts
     };
     let mut p = 0;
     while p < pixels.len() {
-        let e = block_end(p, pixels.len());
-        let d = count_block(&pixels[p..e], base);
+        let e = block_end(p, pixels.len(), size);
+        let d = count_block(&pixels[p..e], form, base);
         c = add_counts(c, d);
         p = e;
     }
@@ -246,34 +328,32 @@ fn put(values: &[u32], w: Width, out: &mut [u8], at: usize)
     table::store(values, w, &mut out[at..e]);
 }
 
-// The underflow entries of a block, gathered in `found`. The answer: where the next go.
+// The k underflow entries of a block, gathered in `found`. The answer: where the next go.
 fn put_underflows(
     block: &[u32],
-    u: Underflow,
+    e: EntryWidth,
     base: u32,
+    k: u32,
     found: &mut [u32],
     out: &mut [u8],
     at: usize,
 ) -> usize
-    requires { ⌜ (length (now block) ≤ 64) × (length (now found) ≡ 64) × (at + length (underEntries u base (now block)) * underflowBytes u ≤ length (now out)) ⌝ }
-    ensures { λ r. ⌜ r ≡ at + length (underEntries u base (now (block .entry))) * underflowBytes u ⌝ }
-    ensures { λ _. ⌜ now (out .exit) ≡ over at (tableOf (underflowBytes u) (underEntries u base (now (block .entry)))) (now (out .entry)) ⌝ }
+    requires { ⌜ (length (now block) ≤ 64) × (length (now found) ≡ 64) × (k ≡ length (only (isUnderflow base) (now block))) × (at + length (only (isUnderflow base) (now block)) * entryBytes e ≤ length (now out)) ⌝ }
+    ensures { λ r. ⌜ r ≡ at + length (only (isUnderflow base) (now (block .entry))) * entryBytes e ⌝ }
+    ensures { λ _. ⌜ now (out .exit) ≡ over at (tableOf (entryBytes e) (only (isUnderflow base) (now (block .entry)))) (now (out .entry)) ⌝ }
 {
-    let Underflow::Subtracted(entry) = u else {
-        return at;
-    };
-    if count_at_most(block, base) == 0 {
+    if k == 0 {
         return at;
     }
-    let k = gather_at_most(block, base, found);
-    match entry {
+    let n = gather_at_most(block, base, found);
+    match e {
         EntryWidth::One => {
-            put(&found[..k], Width::One, out, at);
-            at + k
+            put(&found[..n], Width::One, out, at);
+            at + n
         }
         EntryWidth::Two => {
-            put(&found[..k], Width::Two, out, at);
-            at + k * 2
+            put(&found[..n], Width::Two, out, at);
+            at + n * 2
         }
     }
 }
@@ -287,112 +367,137 @@ fn put_capped(values: &mut [u32], out: &mut [u8], at: usize)
     put(values, Width::Two, out, at);
 }
 
-// The two-byte entries of a block of width 1.
-fn put_two_byte(low: &[u32], found: &mut [u32], out: &mut [u8], at: usize) -> usize
-    requires { ⌜ (length (now low) ≤ 64) × (length (now found) ≡ 64) × (at + length (map atMost65535 (only (leb 255) (now low))) * 2 ≤ length (now out)) ⌝ }
+// The k two-byte entries of a block of width 1.
+fn put_two_byte(low: &[u32], k: u32, found: &mut [u32], out: &mut [u8], at: usize) -> usize
+    requires { ⌜ (length (now low) ≤ 64) × (length (now found) ≡ 64) × (k ≡ length (only (leb 255) (now low))) × (at + length (map atMost65535 (only (leb 255) (now low))) * 2 ≤ length (now out)) ⌝ }
     ensures { λ r. ⌜ r ≡ at + length (map atMost65535 (only (leb 255) (now (low .entry)))) * 2 ⌝ }
     ensures { λ _. ⌜ now (out .exit) ≡ over at (tableOf 2 (map atMost65535 (only (leb 255) (now (low .entry))))) (now (out .entry)) ⌝ }
 {
-    if count_from(low, 255) == 0 {
+    if k == 0 {
         return at;
     }
-    let k = gather_from(low, 255, found);
-    put_capped(&mut found[..k], out, at);
-    at + k * 2
+    let n = gather_from(low, 255, found);
+    put_capped(&mut found[..n], out, at);
+    at + n * 2
 }
 
-// The two-byte entries of a block.
-fn put_twos(low: &[u32], w: Width, found: &mut [u32], out: &mut [u8], at: usize) -> usize
-    requires { ⌜ (length (now low) ≤ 64) × (length (now found) ≡ 64) × (at + length (twoEntries w (now low)) * 2 ≤ length (now out)) ⌝ }
-    ensures { λ r. ⌜ r ≡ at + length (twoEntries w (now (low .entry))) * 2 ⌝ }
-    ensures { λ _. ⌜ now (out .exit) ≡ over at (tableOf 2 (twoEntries w (now (low .entry)))) (now (out .entry)) ⌝ }
-{
-    match w {
-        Width::One => put_two_byte(low, found, out, at),
-        Width::Two => at,
-        Width::Four => at,
-    }
-}
-
-// The four-byte entries of a block of width 1 or 2.
-fn put_four_byte(low: &[u32], found: &mut [u32], out: &mut [u8], at: usize) -> usize
-    requires { ⌜ (length (now low) ≤ 64) × (length (now found) ≡ 64) × (at + length (only (leb 65535) (now low)) * 4 ≤ length (now out)) ⌝ }
+// The k four-byte entries of a block of width 1 or 2.
+fn put_four_byte(low: &[u32], k: u32, found: &mut [u32], out: &mut [u8], at: usize) -> usize
+    requires { ⌜ (length (now low) ≤ 64) × (length (now found) ≡ 64) × (k ≡ length (only (leb 65535) (now low))) × (at + length (only (leb 65535) (now low)) * 4 ≤ length (now out)) ⌝ }
     ensures { λ r. ⌜ r ≡ at + length (only (leb 65535) (now (low .entry))) * 4 ⌝ }
     ensures { λ _. ⌜ now (out .exit) ≡ over at (tableOf 4 (only (leb 65535) (now (low .entry)))) (now (out .entry)) ⌝ }
 {
-    if count_from(low, 65535) == 0 {
+    if k == 0 {
         return at;
     }
-    let k = gather_from(low, 65535, found);
-    put(&found[..k], Width::Four, out, at);
-    at + k * 4
+    let n = gather_from(low, 65535, found);
+    put(&found[..n], Width::Four, out, at);
+    at + n * 4
 }
 
-// The four-byte entries of a block.
-fn put_fours(low: &[u32], w: Width, found: &mut [u32], out: &mut [u8], at: usize) -> usize
-    requires { ⌜ (length (now low) ≤ 64) × (length (now found) ≡ 64) × (at + length (fourEntries w (now low)) * 4 ≤ length (now out)) ⌝ }
-    ensures { λ r. ⌜ r ≡ at + length (fourEntries w (now (low .entry))) * 4 ⌝ }
-    ensures { λ _. ⌜ now (out .exit) ≡ over at (tableOf 4 (fourEntries w (now (low .entry)))) (now (out .entry)) ⌝ }
+// The values of a block in width 1, with their entries. `caps` and `found` are room for its numbers.
+fn store_one(low: &[u32], caps: &mut [u32], found: &mut [u32], out: &mut [u8], at: Places) -> Places
+    requires { ⌜ (length (now low) ≤ 64) × (length (now low) ≡ length (now caps)) × (length (now found) ≡ 64) × ValuesRoom One (now low) at (length (now out)) ⌝ }
+    ensures { λ r. ⌜ r ≡ placesPast One (now (low .entry)) at ⌝ }
+    ensures { λ _. ⌜ now (out .exit) ≡ putValues One (now (low .entry)) at (now (out .entry)) ⌝ }
 {
-    match w {
-        Width::One => put_four_byte(low, found, out, at),
-        Width::Two => put_four_byte(low, found, out, at),
-        Width::Four => at,
+    let image = at.image + low.len();
+    let k = cap_into(low, 255, caps);
+    let two = put_two_byte(low, k, found, out, at.two);
+    let large = count_above(low, k, 65535);
+    let four = put_four_byte(low, large, found, out, at.four);
+    put(caps, Width::One, out, at.image);
+    Places {
+        image,
+        under: at.under,
+        two,
+        four,
     }
 }
 
-// The stored values of a block.
-fn put_image(low: &mut [u32], w: Width, out: &mut [u8], at: usize) -> usize
-    requires { ⌜ at + length (now low) * widthBytes w ≤ length (now out) ⌝ }
-    ensures { λ r. ⌜ r ≡ at + length (now (low .entry)) * widthBytes w ⌝ }
-    ensures { λ _. ⌜ now (out .exit) ≡ over at (tableOf (widthBytes w) (map (storedValue w) (now (low .entry)))) (now (out .entry)) ⌝ }
+// The same in width 2.
+fn store_two(low: &[u32], caps: &mut [u32], found: &mut [u32], out: &mut [u8], at: Places) -> Places
+    requires { ⌜ (length (now low) ≤ 64) × (length (now low) ≡ length (now caps)) × (length (now found) ≡ 64) × ValuesRoom Two (now low) at (length (now out)) ⌝ }
+    ensures { λ r. ⌜ r ≡ placesPast Two (now (low .entry)) at ⌝ }
+    ensures { λ _. ⌜ now (out .exit) ≡ putValues Two (now (low .entry)) at (now (out .entry)) ⌝ }
 {
-    let n = low.len();
-    match w {
-        Width::One => {
-            cap(low, 255);
-            put(low, Width::One, out, at);
-            at + n
-        }
-        Width::Two => {
-            cap(low, 65535);
-            put(low, Width::Two, out, at);
-            at + n * 2
-        }
-        Width::Four => {
-            put(low, Width::Four, out, at);
-            at + n * 4
-        }
+    let image = at.image + low.len() * 2;
+    let k = cap_into(low, 65535, caps);
+    let four = put_four_byte(low, k, found, out, at.four);
+    put(caps, Width::Two, out, at.image);
+    Places {
+        image,
+        under: at.under,
+        two: at.two,
+        four,
     }
 }
 
-// A block: its entries and its stored values, each at its place. `low` and `found` are room for its numbers.
+// The same in width 4, where no value has an entry.
+fn store_four(low: &[u32], out: &mut [u8], at: Places) -> Places
+    requires { ⌜ ValuesRoom Four (now low) at (length (now out)) ⌝ }
+    ensures { λ r. ⌜ r ≡ placesPast Four (now (low .entry)) at ⌝ }
+    ensures { λ _. ⌜ now (out .exit) ≡ putValues Four (now (low .entry)) at (now (out .entry)) ⌝ }
+{
+    let image = at.image + low.len() * 4;
+    put(low, Width::Four, out, at.image);
+    Places {
+        image,
+        under: at.under,
+        two: at.two,
+        four: at.four,
+    }
+}
+
+// The values of a block, each with a loop of its own width.
+fn store_values(
+    low: &[u32],
+    w: Width,
+    caps: &mut [u32],
+    found: &mut [u32],
+    out: &mut [u8],
+    at: Places,
+) -> Places
+    requires { ⌜ (length (now low) ≤ 64) × (length (now low) ≡ length (now caps)) × (length (now found) ≡ 64) × ValuesRoom w (now low) at (length (now out)) ⌝ }
+    ensures { λ r. ⌜ r ≡ placesPast w (now (low .entry)) at ⌝ }
+    ensures { λ _. ⌜ now (out .exit) ≡ putValues w (now (low .entry)) at (now (out .entry)) ⌝ }
+{
+    match w {
+        Width::One => store_one(low, caps, found, out, at),
+        Width::Two => store_two(low, caps, found, out, at),
+        Width::Four => store_four(low, out, at),
+    }
+}
+
+// A block: its entries and its stored values, each at its place. `low`, `caps` and `found` are room for its numbers.
 fn store_block(
     block: &[u32],
     form: Form,
     base: u32,
     low: &mut [u32],
+    caps: &mut [u32],
     found: &mut [u32],
     out: &mut [u8],
     at: Places,
 ) -> Places
-    requires { ⌜ (length (now block) ≤ 64) × (length (now block) ≡ length (now low)) × (length (now found) ≡ 64) × (base ≡ usedBase (form .underflow) base) × Room form (storedFor form base (now block)) at (length (now out)) ⌝ }
+    requires { ⌜ (length (now block) ≤ 64) × (length (now block) ≡ length (now low)) × (length (now block) ≡ length (now caps)) × (length (now found) ≡ 64) × (base ≡ usedBase (form .underflow) base) × Room form (storedFor form base (now block)) at (length (now out)) ⌝ }
     ensures { λ r. ⌜ r ≡ placesAfter form (storedFor form base (now (block .entry))) at ⌝ }
     ensures { λ _. ⌜ now (out .exit) ≡ putBlock form (storedFor form base (now (block .entry))) at (now (out .entry)) ⌝ }
 {
     let u = form.underflow;
     let w = form.width;
-    let under = put_underflows(block, u, base, found, out, at.under);
-    lower(block, base, low);
-    let two = put_twos(low, w, found, out, at.two);
-    let four = put_fours(low, w, found, out, at.four);
-    let image = put_image(low, w, out, at.image);
-    Places {
-        image,
+    let Underflow::Subtracted(e) = u else {
+        return store_values(block, w, caps, found, out, at);
+    };
+    let k = lower(block, base, low);
+    let under = put_underflows(block, e, base, k, found, out, at.under);
+    let t = Places {
+        image: at.image,
         under,
-        two,
-        four,
-    }
+        two: at.two,
+        four: at.four,
+    };
+    store_values(low, w, caps, found, out, t)
 }
 
 // All blocks, in a buffer that is zero behind the image.
@@ -401,19 +506,29 @@ fn store_blocks(
     form: Form,
     base: u32,
     low: &mut [u32],
+    caps: &mut [u32],
     found: &mut [u32],
     out: &mut [u8],
     at: Places,
 )
-    requires { ⌜ (length (now low) ≡ 64) × (length (now found) ≡ 64) × (base ≡ usedBase (form .underflow) base) × (at ≡ placesFor (at .image) form (storedFor form base (now pixels))) × (frameLength (at .image) form (storedFor form base (now pixels)) ≤ length (now out)) × (drop (at .image + length (storedFor form base (now pixels) .image) * widthBytes (form .width)) (now out) ≡ zeros (length (now out) - (at .image + length (storedFor form base (now pixels) .image) * widthBytes (form .width)))) ⌝ }
+    requires { ⌜ (length (now low) ≡ 64) × (length (now caps) ≡ 64) × (length (now found) ≡ 64) × (base ≡ usedBase (form .underflow) base) × (at ≡ placesFor (at .image) form (storedFor form base (now pixels))) × (frameLength (at .image) form (storedFor form base (now pixels)) ≤ length (now out)) × (drop (at .image + length (storedFor form base (now pixels) .image) * widthBytes (form .width)) (now out) ≡ zeros (length (now out) - (at .image + length (storedFor form base (now pixels) .image) * widthBytes (form .width)))) ⌝ }
     ensures { λ _. ⌜ now (out .exit) ≡ take (at .image) (now (out .entry)) ++ (bodyBytes form (storedFor form base (now (pixels .entry))) ++ zeros (length (now (out .entry)) - frameLength (at .image) form (storedFor form base (now (pixels .entry))))) ⌝ }
 {
     let mut t = at;
     let mut p = 0;
     while p < pixels.len() {
-        let e = block_end(p, pixels.len());
+        let e = block_end(p, pixels.len(), 64);
         let n = e - p;
-        t = store_block(&pixels[p..e], form, base, &mut low[..n], found, out, t);
+        t = store_block(
+            &pixels[p..e],
+            form,
+            base,
+            &mut low[..n],
+            &mut caps[..n],
+            found,
+            out,
+            t,
+        );
         p = e;
     }
 }
@@ -517,58 +632,84 @@ fn put_npixelb(form: Form, out: &mut [u8])
     put_spaces(&mut out[48..72]);
 }
 
-// The header, copied but for two lines.
-fn put_header(header: &[u8], form: Form, c: Counts, out: &mut [u8])
-    requires { ⌜ (length (now header) ≡ length (now out)) × (3200 ≤ length (now header)) ⌝ }
-    ensures { λ _. ⌜ now (out .exit) ≡ withData Npixelb (npixelbData form) (withData Noverfl (countsData (form .underflow) c) (now (header .entry))) ⌝ }
+// The header's two lines, in place.
+fn put_lines(header: &mut [u8], form: Form, c: Counts)
+    requires { ⌜ 3200 ≤ length (now header) ⌝ }
+    ensures { λ _. ⌜ now (header .exit) ≡ relined form c (now (header .entry)) ⌝ }
 {
     let u = form.underflow;
     let noverfl = header_lines::position_of(LineId::Noverfl) as usize * 80 + 8;
     let npixelb = header_lines::position_of(LineId::Npixelb) as usize * 80 + 8;
-    copy(header, out);
-    put_noverfl(u, c, &mut out[noverfl..noverfl + 72]);
-    put_npixelb(form, &mut out[npixelb..npixelb + 72]);
+    put_noverfl(u, c, &mut header[noverfl..noverfl + 72]);
+    put_npixelb(form, &mut header[npixelb..npixelb + 72]);
 }
 
-// The counts that the form has entries for.
-fn counts_for(form: Form, c: Counts) -> Counts
-    ensures { λ r. ⌜ (r .under ≡ underCount (form .underflow) (c .under)) × (r .two ≡ twoCount (form .width) (c .two)) × (r .four ≡ fourCount (form .width) (c .four)) ⌝ }
+// NOVERFL and NPIXELB for these counts, where the bytes reach to the end of both.
+pub fn rewrite(header: &mut [u8], form: Form, c: Counts)
+    ensures { λ _. ⌜ now (header .exit) ≡ if_then_else_ (leb 3200 (length (now (header .entry)))) (relined form c (now (header .entry))) (now (header .entry)) ⌝ }
 {
+    if 3200 <= header.len() {
+        put_lines(header, form, c);
+    }
+}
+
+fn same(a: &[u8], b: &[u8]) -> bool
+    requires { ⌜ length (now a) ≡ length (now b) ⌝ }
+    ensures { λ r. ⌜ r ≡ sameBytes (now (a .entry)) (now (b .entry)) ⌝ }
+{
+    let mut i = 0;
+    while i < a.len() {
+        if a[i] != b[i] {
+            return false;
+        }
+        i += 1;
+    }
+    true
+}
+
+// Whether a line's data is NOVERFL's for these counts.
+fn is_noverfl(text: &[u8], u: Underflow, c: Counts) -> bool
+    requires { ⌜ length (now text) ≡ 72 ⌝ }
+    ensures { λ r. ⌜ r ≡ sameBytes (now (text .entry)) (countsData u c) ⌝ }
+{
+    let mut line = [0u8; 72];
+    put_noverfl(u, c, &mut line);
+    same(text, &line)
+}
+
+// Whether a line's data is NPIXELB's for this form.
+fn is_npixelb(text: &[u8], form: Form) -> bool
+    requires { ⌜ length (now text) ≡ 72 ⌝ }
+    ensures { λ r. ⌜ r ≡ sameBytes (now (text .entry)) (npixelbData form) ⌝ }
+{
+    let mut line = [0u8; 72];
+    put_npixelb(form, &mut line);
+    same(text, &line)
+}
+
+// Whether NOVERFL and NPIXELB are there, as `rewrite` writes them for these counts.
+pub fn is_rewritten(header: &[u8], form: Form, c: Counts) -> bool
+    ensures { λ r. ⌜ r ≡ linesWritten form c (now (header .entry)) ⌝ }
+{
+    if header.len() < 3200 {
+        return false;
+    }
     let u = form.underflow;
-    let w = form.width;
-    let under = under_count(u, c.under);
-    let two = two_count(w, c.two);
-    let four = four_count(w, c.four);
-    Counts { under, two, four }
+    let noverfl = header_lines::position_of(LineId::Noverfl) as usize * 80 + 8;
+    if !is_noverfl(&header[noverfl..noverfl + 72], u, c) {
+        return false;
+    }
+    let npixelb = header_lines::position_of(LineId::Npixelb) as usize * 80 + 8;
+    is_npixelb(&header[npixelb..npixelb + 72], form)
 }
 
-fn under_count(u: Underflow, n: u32) -> u32
-    ensures { λ r. ⌜ r ≡ underCount u n ⌝ }
+// The header, copied but for two lines.
+fn put_header(header: &[u8], form: Form, c: Counts, out: &mut [u8])
+    requires { ⌜ (length (now header) ≡ length (now out)) × (3200 ≤ length (now header)) ⌝ }
+    ensures { λ _. ⌜ now (out .exit) ≡ relined form c (now (header .entry)) ⌝ }
 {
-    match u {
-        Underflow::None => 0,
-        Underflow::Subtracted(_) => n,
-    }
-}
-
-fn two_count(w: Width, n: u32) -> u32
-    ensures { λ r. ⌜ r ≡ twoCount w n ⌝ }
-{
-    match w {
-        Width::One => n,
-        Width::Two => 0,
-        Width::Four => 0,
-    }
-}
-
-fn four_count(w: Width, n: u32) -> u32
-    ensures { λ r. ⌜ r ≡ fourCount w n ⌝ }
-{
-    match w {
-        Width::One => n,
-        Width::Two => n,
-        Width::Four => 0,
-    }
+    copy(header, out);
+    put_lines(out, form, c);
 }
 
 // The bytes of a table with its padding.
@@ -686,6 +827,37 @@ fn base_for(header: &[u8], h: Underflows, u: Underflow) -> BaseAnswer
     }
 }
 
+// Width 4 with kind none: the pixels are the image, and no table has an entry.
+fn is_plain(form: Form) -> bool
+    ensures { λ r. ⌜ r ≡ isPlain (form .width) (form .underflow) ⌝ }
+{
+    let w = form.width;
+    let u = form.underflow;
+    match w {
+        Width::One => false,
+        Width::Two => false,
+        Width::Four => match u {
+            Underflow::None => true,
+            Underflow::Subtracted(_) => false,
+        },
+    }
+}
+
+// All pixels, in a buffer that is zero behind the image.
+fn store_pixels(pixels: &[u32], form: Form, base: u32, out: &mut [u8], at: Places)
+    requires { ⌜ (base ≡ usedBase (form .underflow) base) × (at ≡ placesFor (at .image) form (storedFor form base (now pixels))) × (frameLength (at .image) form (storedFor form base (now pixels)) ≤ length (now out)) × (drop (at .image + length (storedFor form base (now pixels) .image) * widthBytes (form .width)) (now out) ≡ zeros (length (now out) - (at .image + length (storedFor form base (now pixels) .image) * widthBytes (form .width)))) ⌝ }
+    ensures { λ _. ⌜ now (out .exit) ≡ take (at .image) (now (out .entry)) ++ (bodyBytes form (storedFor form base (now (pixels .entry))) ++ zeros (length (now (out .entry)) - frameLength (at .image) form (storedFor form base (now (pixels .entry))))) ⌝ }
+{
+    if is_plain(form) {
+        store_four(pixels, out, at);
+        return;
+    }
+    let mut low = [0u32; 64];
+    let mut caps = [0u32; 64];
+    let mut found = [0u32; 64];
+    store_blocks(pixels, form, base, &mut low, &mut caps, &mut found, out, at);
+}
+
 // The frame in a buffer that holds it, and zeros behind it.
 fn store_frame(
     header: &[u8],
@@ -702,9 +874,7 @@ fn store_frame(
     let start = at.image;
     let end = at.under;
     table::fill(&mut out[end..], 0);
-    let mut low = [0u32; 64];
-    let mut found = [0u32; 64];
-    store_blocks(pixels, form, base, &mut low, &mut found, out, at);
+    store_pixels(pixels, form, base, out, at);
     put_header(header, form, c, &mut out[..start]);
 }
 
@@ -718,8 +888,7 @@ fn write_form(header: &[u8], form: Form, base: u32, pixels: &[u32], out: &mut [u
     if underflow_too_large(u, pixels, base) {
         return WriteAnswer::Refused(Refusal::UnderflowTooLarge);
     }
-    let all = count_blocks(pixels, base);
-    let c = counts_for(form, all);
+    let c = count_blocks(pixels, form, base);
     let at = places_for(header.len(), pixels.len(), form, c);
     let end = at.four + padded_bytes(Width::Four, c.four);
     if out.len() < end {

@@ -3,7 +3,7 @@ use native.Mathlib.Omega.{arith}
 use borrow.Author.Needs.{needs}
 use Rattle.layout.specs.Form.{widthBytes}
 use Rattle.layout.proofs.Laws.{bytes-le}
-use Rattle.expand.specs.Blocks.{extentOf}
+use Rattle.expand.specs.Places.{extentOf}
 use Rattle.expand.proofs.Extents.{table-le}
 use Rattle.expand.proofs.extent_of.Statement.{statement}
 use Rattle.expand.proofs.extent_of.Tie as tie

@@ -1,34 +1,25 @@
-use Rattle.writer.specs.Blocks.{countsOf}
+use Rattle.writer.specs.Blocks.{countsOf, countsFor}
 use borrow.Author.Needs.{needs}
 use Rattle.writer.proofs.count_block.Statement.{statement}
 use Rattle.writer.proofs.count_block.Tie as tie
 
-count-at-most-requires : tie.Need-count-at-most-requires
-count-at-most-requires c κs = search needs
+count-under-requires : tie.Need-count-under-requires
+count-under-requires c κs = search needs
 
-add-count-from : tie.Need-add-count-from
-add-count-from c = search needs
+add-count-two : tie.Need-add-count-two
+add-count-two c = search needs
 
-count-from-requires : tie.Need-count-from-requires
-count-from-requires c κs = search needs
+count-two-requires : tie.Need-count-two-requires
+count-two-requires c κs = search needs
 
-add-count-from-2 : tie.Need-add-count-from-2
-add-count-from-2 c = search needs
-
-count-from-requires-2 : tie.Need-count-from-requires-2
-count-from-requires-2 c κs = search needs
+count-four-requires : tie.Need-count-four-requires
+count-four-requires c κs = search needs
 
 returns : tie.Need-returns
-unfolding countsOf
-returns c = rw (c .before .before .count-at-most .ensures, c .before .count-from .ensures, c .count-from2 .ensures)
+unfolding countsOf countsFor
+returns c = rw (c .before .before .count-under .ensures, c .before .count-two .ensures, c .count-four .ensures)
 
 pub count-block-spec : {M : Type 1} → statement M
 count-block-spec =
     tie.close
-    (tie.spec
-    count-at-most-requires
-    add-count-from
-    count-from-requires
-    add-count-from-2
-    count-from-requires-2
-    returns)
+    (tie.spec count-under-requires add-count-two count-two-requires count-four-requires returns)

@@ -1,19 +1,22 @@
 use Prim.Native.Nat.{_-_}
 use lib.ListN.{length, length-take, length-drop}
 use Rattle.writer.proofs.Gathering.{Blocks, blocks-start, blocks-more, blocks-few, block-few, blocks-done}
-use borrow.Author.Needs.{needs}
 use native.Mathlib.Omega.{arith}
+use borrow.Author.Needs.{needs}
 use Rattle.writer.proofs.count_blocks.Statement.{statement}
 use Rattle.writer.proofs.count_blocks.Tie as tie
 
 abbrev Inv-loop : tie.InvT-loop
-Inv-loop pixels base c₀ p₀ c p = Blocks base pixels c p
+Inv-loop pixels form base size c₀ p₀ c p = Blocks form base pixels c p
 
 abbrev μ-loop : tie.MeasureT-loop
-μ-loop pixels base c₀ p₀ c p = length pixels - p
+μ-loop pixels form base size c₀ p₀ c p = length pixels - p
+
+counted-at-once-requires : tie.Need-counted-at-once-requires Inv-loop μ-loop
+counted-at-once-requires c κs = search needs
 
 loop-holds : tie.Need-loop-holds Inv-loop μ-loop
-loop-holds c = blocks-start _ _
+loop-holds c = blocks-start _ _ _
 
 block-end-requires : tie.Need-block-end-requires Inv-loop μ-loop
 block-end-requires c κs = search needs
@@ -35,10 +38,8 @@ count-block-requires c κs = simp (length-take, length-drop) (omega arith)
 
 add-counts-requires : tie.Need-add-counts-requires Inv-loop μ-loop
 add-counts-requires c κs =
-    let l = c .before .before .before .before .loop in
-    let f = blocks-few (l .inv) in
-    let e = c .before .before .block-end in
-    let g = block-few _ _ (c .count-block .result) (l .p) (e .result) (omega arith) (omega arith) (c .count-block .ensures) in
+    let f = blocks-few (c .before .before .before .before .loop .inv) in
+    let g = block-few _ _ _ (c .count-block .result) (c .before .before .before .before .loop .p) (c .before .before .block-end .result) (omega arith) (omega arith) (c .count-block .ensures) in
     omega arith
 
 loop-less : tie.Need-loop-less Inv-loop μ-loop
@@ -56,6 +57,7 @@ count-blocks-spec =
     (tie.spec
     Inv-loop
     μ-loop
+    counted-at-once-requires
     loop-holds
     block-end-requires
     mul-count-block

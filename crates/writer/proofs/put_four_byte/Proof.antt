@@ -3,11 +3,8 @@ use borrow.Author.Needs.{needs}
 use Rattle.writer.proofs.put_four_byte.Statement.{statement}
 use Rattle.writer.proofs.put_four_byte.Tie as tie
 
-count-from-requires : tie.Need-count-from-requires
-count-from-requires c κs = search needs
-
 returns : tie.Need-returns
-returns c = none-put _ 4 _ _ (none-found _ _ (c .before .count-from .ensures) (c .if1 .taken))
+returns c = none-put _ 4 _ _ (none-found _ _ (c .before .before .before .before .pre .2) (c .if1 .taken))
 
 gather-from-requires : tie.Need-gather-from-requires
 gather-from-requires c κs = search needs
@@ -19,7 +16,7 @@ slice-aggregate-put : tie.Need-slice-aggregate-put
 slice-aggregate-put c = taken-length _ _ _ (c .before .before .before .gather-from .ensures)
 
 put-requires : tie.Need-put-requires
-put-requires c κs = rw (c .before .before .before .before .gather-from .ensures .1) (c .before .before .before .before .before .before .before .before .before .before .before .pre .2)
+put-requires c κs = rw (c .before .before .before .before .gather-from .ensures .1) (c .before .before .before .before .before .before .before .before .before .before .pre .3)
 
 mul-result : tie.Need-mul-result
 mul-result c = search needs
@@ -40,7 +37,6 @@ pub put-four-byte-spec : {M : Type 1} → statement M
 put-four-byte-spec =
     tie.close
     (tie.spec
-    count-from-requires
     returns
     gather-from-requires
     slice-reshare-prefix-put

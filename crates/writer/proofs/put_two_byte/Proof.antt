@@ -1,20 +1,13 @@
+use lib.ListN.{length-map}
 use lib.Dec.{leb}
 use Rattle.writer.specs.Storing.{only}
-use Rattle.writer.proofs.Over.{none-capped}
-use mathlib.Core.Path.{ap}
-use mathlib.Core.List.{map}
-use Rattle.writer.specs.Storing.{atMost65535}
-use Rattle.writer.proofs.Over.{none-found, none-put, taken-fits, taken-length, capped-put}
-use lib.ListN.{length-map}
+use Rattle.writer.proofs.Over.{none-capped, none-put, taken-fits, taken-length, capped-put}
 use borrow.Author.Needs.{needs}
 use Rattle.writer.proofs.put_two_byte.Statement.{statement}
 use Rattle.writer.proofs.put_two_byte.Tie as tie
 
-count-from-requires : tie.Need-count-from-requires
-count-from-requires c κs = search needs
-
 returns : tie.Need-returns
-returns c = none-put _ 2 _ _ (none-capped (c .before .count-from .result) (only (leb 255) (c .before .before .before .before .before .args .low .now)) (c .before .count-from .ensures) (c .if1 .taken))
+returns c = none-put _ 2 _ _ (none-capped (c .before .before .before .before .args .k) (only (leb 255) (c .before .before .before .before .args .low .now)) (c .before .before .before .before .pre .2) (c .if1 .taken))
 
 gather-from-requires : tie.Need-gather-from-requires
 gather-from-requires c κs = search needs
@@ -26,7 +19,7 @@ slice-aggregate-put-capped : tie.Need-slice-aggregate-put-capped
 slice-aggregate-put-capped c = taken-length _ _ _ (c .before .before .before .gather-from .ensures)
 
 put-capped-requires : tie.Need-put-capped-requires
-put-capped-requires c κs = rw (c .before .before .before .before .gather-from .ensures .1) (rw length-map at (c .before .before .before .before .before .before .before .before .before .before .before .pre .2))
+put-capped-requires c κs = rw (c .before .before .before .before .gather-from .ensures .1) (rw length-map at (c .before .before .before .before .before .before .before .before .before .before .pre .3))
 
 mul-result : tie.Need-mul-result
 mul-result c = search needs
@@ -47,7 +40,6 @@ pub put-two-byte-spec : {M : Type 1} → statement M
 put-two-byte-spec =
     tie.close
     (tie.spec
-    count-from-requires
     returns
     gather-from-requires
     slice-relend-prefix-put-capped

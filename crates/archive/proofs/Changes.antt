@@ -1,0 +1,267 @@
+-- Correction and withdrawal, by what replacing a pixel answers and leaves.
+-- Assumes nothing.
+use mathlib.Core.Path.{_≡_, refl, sym, ap, _∙_}
+use mathlib.Core.Bool.{Bool, true, false, not}
+use mathlib.Core.List.{List}
+use Prim.Native.Nat.{ℕ, _+_, _*_, _≤_}
+use native.Mathlib.Nat.{mul-le-mul-left, mul-le-mul-right}
+use borrow.Author.Tests.{le-leb, leb-false}
+use native.Mathlib.Omega.{arith}
+use lib.ListN.{length, getD}
+use lib.Dec.{leb, ltb}
+use Rattle.lists.specs.Choose.{if_then_else_}
+use Rattle.lists.specs.Bytes.{heldBytes}
+use Rattle.refusal.specs.declared.Refusal.{Refusal}
+use Rattle.refusal.specs.declared.Refusal.the-variants as R
+use Rattle.ledger.specs.declared.Kind.the-variants.{Correction, Keep, Withdrawal}
+use Rattle.ledger.specs.declared.Line.{Line}
+use Rattle.ledger.specs.declared.LedgerAnswer.{LedgerAnswer}
+use Rattle.ledger.specs.declared.LedgerAnswer.the-variants as L
+use Rattle.ledger.specs.declared.Found.the-variants.{At, Nothing}
+use Rattle.ledger.specs.declared.Summary.{Summary}
+use Rattle.ledger.specs.declared.SurveyAnswer.the-variants as Y
+use Rattle.ledger.specs.Lines.{linesOf}
+use Rattle.ledger.specs.Standing.{lastStanding, anyLine}
+use Rattle.ledger.specs.Ledger.{ledgerMalformed, ledgerFull, withLine, summaryOf, surveyOf, appendAnswer, appendBytes}
+use Rattle.writer.specs.Writer.{Made, frame, refused, outputOf}
+use Rattle.readback.specs.Held.{heldCount, heldPixels, isHeld}
+use Rattle.canonical.specs.declared.Place.{Place}
+use Rattle.canonical.specs.declared.Located.{Located}
+use Rattle.canonical.specs.declared.Located.the-variants as C
+use Rattle.canonical.specs.Located.{placeIn, located}
+use Rattle.replacement.specs.declared.Expected.{Expected}
+use Rattle.replacement.specs.declared.Expected.the-variants.{Any, Exactly}
+use Rattle.replacement.specs.declared.Replaced.the-variants as D
+use Rattle.replacement.specs.Replace.{meets, changedFrame, replacedAs, replaceAnswer, replaceBytes}
+use Rattle.archive.specs.Calls.{Outcome, outcome, correctionLine, withdrawalLine, refuse, heldAs, correctOutcome, withdrawOutcome}
+use Rattle.header.proofs.Accepted.{accepted-bounds}
+use Rattle.readback.proofs.HeldOpened.{opened, count-of}
+use Rattle.archive.specs.Changes.{within32, heldRefusal, refusalBy, fullRefusal, replacedOutcome, changing, keepWithdrawn}
+
+module _ (held ledger : List ℕ) (lines : ℕ) where
+  frame-by : (t : Bool) (f : List ℕ) (old : ℕ) (line : ℕ → Line)
+      → if_then_else_ t (refuse held ledger lines R.OutputShort) (outcome (L.Accepted (lines + 1)) (heldBytes (length held) f) (withLine ledger lines (line old)))
+      ≡ replacedOutcome ledger lines line (if_then_else_ t held (heldBytes (length held) f)) (if_then_else_ t (D.Refused R.OutputShort) (D.Done old))
+  frame-by true f old line = refl
+  frame-by false f old line = refl
+
+  made-by : (m : Made) (old : ℕ) (line : ℕ → Line) → heldAs held ledger lines (line old) m ≡ replacedOutcome ledger lines line (outputOf held m) (replacedAs (length held) old m)
+  made-by (frame f) old line = frame-by (ltb (length held) (length f)) f old line
+  made-by (refused r) old line = refl
+
+  tests-by : (a b c : Bool) (m : Made) (old : ℕ) (line : ℕ → Line)
+      → if_then_else_ (not a) (refuse held ledger lines R.HeldNotCanonical)
+      (if_then_else_ b (refuse held ledger lines R.NoSuchPixel) (if_then_else_ (not c) (refuse held ledger lines R.PixelDiffers) (heldAs held ledger lines (line old) m)))
+      ≡ replacedOutcome ledger lines line (if_then_else_ (not a) held (if_then_else_ b held (if_then_else_ (not c) held (outputOf held m))))
+      (if_then_else_ (not a) (D.Refused R.HeldNotCanonical) (if_then_else_ b (D.Refused R.NoSuchPixel) (if_then_else_ (not c) (D.Refused R.PixelDiffers) (replacedAs (length held) old m))))
+  tests-by false b c m old line = refl
+  tests-by true true c m old line = refl
+  tests-by true false false m old line = refl
+  tests-by true false true m old line = made-by m old line
+
+  -- where the ledger has room
+  pub changing-by : ledgerFull ledger lines ≡ false → (expected : Expected) (pixel count : ℕ) (line : ℕ → Line)
+      → changing held ledger lines expected pixel count line ≡ replacedOutcome ledger lines line (replaceBytes held pixel expected count) (replaceAnswer held pixel expected count)
+  unfolding changing replaceBytes replaceAnswer
+  changing-by room expected pixel count line = rw room (tests-by (isHeld held) (leb (heldCount held) pixel) (meets expected (getD (heldPixels held) pixel 0)) (changedFrame held pixel count) (getD (heldPixels held) pixel 0) line)
+
+  pub changing-refused : ledgerFull ledger lines ≡ false → (expected : Expected) (pixel count : ℕ) (line : ℕ → Line) (r : Refusal) → replaceAnswer held pixel expected count ≡ D.Refused r
+      → changing held ledger lines expected pixel count line ≡ outcome (L.Refused r) (replaceBytes held pixel expected count) ledger
+  changing-refused room expected pixel count line r e =
+      changing-by room expected pixel count line ∙ ap (replacedOutcome ledger lines line (replaceBytes held pixel expected count)) e
+
+  pub changing-done : ledgerFull ledger lines ≡ false → (expected : Expected) (pixel count : ℕ) (line : ℕ → Line) (old : ℕ) → replaceAnswer held pixel expected count ≡ D.Done old
+      → changing held ledger lines expected pixel count line ≡ outcome (L.Accepted (lines + 1)) (replaceBytes held pixel expected count) (withLine ledger lines (line old))
+  changing-done room expected pixel count line old e =
+      changing-by room expected pixel count line ∙ ap (replacedOutcome ledger lines line (replaceBytes held pixel expected count)) e
+
+  full-tests : (a b c : Bool) (x : Outcome)
+      → if_then_else_ (not a) (refuse held ledger lines R.HeldNotCanonical)
+      (if_then_else_ b (refuse held ledger lines R.NoSuchPixel) (if_then_else_ (not c) (refuse held ledger lines R.PixelDiffers) (refuse held ledger lines R.LedgerFull)))
+      ≡ refuse held ledger lines (if_then_else_ (not a) R.HeldNotCanonical (if_then_else_ b R.NoSuchPixel (if_then_else_ c R.LedgerFull R.PixelDiffers)))
+  full-tests false b c x = refl
+  full-tests true true c x = refl
+  full-tests true false false x = refl
+  full-tests true false true x = refl
+
+  full-located : (expected : Expected) (pixel : ℕ) (a b : Bool)
+      → fullRefusal expected (if_then_else_ (not a) C.NotCanonical (if_then_else_ b C.NoPixel (C.At (placeIn held pixel))))
+      ≡ if_then_else_ (not a) R.HeldNotCanonical (if_then_else_ b R.NoSuchPixel (if_then_else_ (meets expected (getD (heldPixels held) pixel 0)) R.LedgerFull R.PixelDiffers))
+  unfolding placeIn
+  full-located expected pixel false b = refl
+  full-located expected pixel true true = refl
+  full-located expected pixel true false = refl
+
+  -- where it has none
+  pub changing-full : ledgerFull ledger lines ≡ true → (expected : Expected) (pixel count : ℕ) (line : ℕ → Line)
+      → changing held ledger lines expected pixel count line ≡ refuse held ledger lines (fullRefusal expected (located held pixel))
+  unfolding changing located
+  changing-full full expected pixel count line =
+      rw full (full-tests (isHeld held) (leb (heldCount held) pixel) (meets expected (getD (heldPixels held) pixel 0)) (changing held ledger lines expected pixel count line)
+      ∙ ap (refuse held ledger lines) (sym (full-located expected pixel (isHeld held) (leb (heldCount held) pixel))))
+
+  -- correction
+  pub correct-malformed : ledgerMalformed ledger lines ≡ true → (pixel count : ℕ) → correctOutcome held ledger lines pixel count ≡ refuse held ledger lines (heldRefusal held R.LedgerMalformed)
+  unfolding correctOutcome heldRefusal
+  correct-malformed h pixel count = rw h (go (isHeld held))
+    where
+      go : (a : Bool) → if_then_else_ (not a) (refuse held ledger lines R.HeldNotCanonical) (refuse held ledger lines R.LedgerMalformed) ≡ refuse held ledger lines (if_then_else_ (not a) R.HeldNotCanonical R.LedgerMalformed)
+      go true = refl
+      go false = refl
+
+  pub correct-is : ledgerMalformed ledger lines ≡ false → (pixel count : ℕ)
+      → correctOutcome held ledger lines pixel count ≡ changing held ledger lines Any pixel count (λ (old : ℕ). correctionLine pixel old count)
+  unfolding correctOutcome changing
+  correct-is h pixel count = rw h
+
+  either : (a : Bool) (x y : Refusal) → if_then_else_ (not a) (refuse held ledger lines x) (refuse held ledger lines y) ≡ refuse held ledger lines (if_then_else_ (not a) x y)
+  either true x y = refl
+  either false x y = refl
+
+  -- withdrawal
+  pub withdraw-malformed : ledgerMalformed ledger lines ≡ true → withdrawOutcome held ledger lines ≡ refuse held ledger lines (heldRefusal held R.LedgerMalformed)
+  unfolding withdrawOutcome heldRefusal
+  withdraw-malformed h = rw h (either (isHeld held) R.HeldNotCanonical R.LedgerMalformed)
+
+  module _ (h : ledgerMalformed ledger lines ≡ false) where
+    pub withdraw-nothing : lastStanding anyLine 0 (linesOf lines ledger) ≡ Nothing → withdrawOutcome held ledger lines ≡ refuse held ledger lines (heldRefusal held R.NothingStands)
+    unfolding withdrawOutcome heldRefusal
+    withdraw-nothing e = rw (h, e) (either (isHeld held) R.HeldNotCanonical R.NothingStands)
+
+    module _ (index : ℕ) (l : Line) (e : lastStanding anyLine 0 (linesOf lines ledger) ≡ At index l) where
+      pub withdraw-correction : l .kind ≡ Correction
+          → withdrawOutcome held ledger lines ≡ changing held ledger lines (Exactly (l .new)) (l .pixel) (l .old) (λ (old : ℕ). withdrawalLine)
+      unfolding withdrawOutcome changing
+      withdraw-correction k = rw (h, e, k)
+
+      pub withdraw-keep : l .kind ≡ Keep → withdrawOutcome held ledger lines ≡ keepWithdrawn held ledger lines
+      unfolding withdrawOutcome keepWithdrawn
+      withdraw-keep k = rw (h, e, k)
+
+      pub withdraw-other : l .kind ≡ Withdrawal → withdrawOutcome held ledger lines ≡ refuse held ledger lines (heldRefusal held R.NothingStands)
+      unfolding withdrawOutcome heldRefusal
+      withdraw-other k = rw (h, e, k) (either (isHeld held) R.HeldNotCanonical R.NothingStands)
+
+-- the parts of an outcome
+pub answer-of : {a : LedgerAnswer} {h l : List ℕ} {o : Outcome} → o ≡ outcome a h l → a ≡ o .answer
+answer-of e = sym (ap (λ (x : Outcome). x .answer) e)
+
+pub held-of : {a : LedgerAnswer} {h l : List ℕ} {o : Outcome} → o ≡ outcome a h l → h ≡ o .held
+held-of e = sym (ap (λ (x : Outcome). x .held) e)
+
+pub ledger-of : {a : LedgerAnswer} {h l : List ℕ} {o : Outcome} → o ≡ outcome a h l → l ≡ o .ledger
+ledger-of e = sym (ap (λ (x : Outcome). x .ledger) e)
+
+-- a line appended where there is room
+pub appended-answer : (t : List ℕ) (lines : ℕ) → ledgerFull t lines ≡ false → appendAnswer t lines ≡ L.Accepted (lines + 1)
+unfolding appendAnswer
+appended-answer t lines h = rw h
+
+pub appended-bytes : (t : List ℕ) (lines : ℕ) (l : Line) → ledgerFull t lines ≡ false → appendBytes t lines l ≡ withLine t lines l
+unfolding appendBytes
+appended-bytes t lines l h = rw h
+
+-- a keep line taken back where the frame is held
+keep-tests : (held ledger : List ℕ) (lines : ℕ) (a : Bool)
+    → if_then_else_ a (refuse held ledger lines R.LedgerFull) (outcome (L.Accepted (lines + 1)) held (withLine ledger lines withdrawalLine))
+    ≡ outcome (if_then_else_ a (L.Refused R.LedgerFull) (L.Accepted (lines + 1))) held (if_then_else_ a ledger (withLine ledger lines withdrawalLine))
+keep-tests held ledger lines true = refl
+keep-tests held ledger lines false = refl
+
+pub keep-held : (held ledger : List ℕ) (lines : ℕ) → isHeld held ≡ true → keepWithdrawn held ledger lines ≡ outcome (appendAnswer ledger lines) held (appendBytes ledger lines withdrawalLine)
+unfolding keepWithdrawn appendAnswer appendBytes
+keep-held held ledger lines h = rw h (keep-tests held ledger lines (ledgerFull ledger lines))
+
+pub keep-not-held : (held ledger : List ℕ) (lines : ℕ) → isHeld held ≡ false → keepWithdrawn held ledger lines ≡ refuse held ledger lines R.HeldNotCanonical
+unfolding keepWithdrawn
+keep-not-held held ledger lines h = rw h
+
+keep-same-tests : (held ledger : List ℕ) (lines : ℕ) (a b : Bool)
+    → if_then_else_ (not a) (refuse held ledger lines R.HeldNotCanonical) (if_then_else_ b (refuse held ledger lines R.LedgerFull) (outcome (L.Accepted (lines + 1)) held (withLine ledger lines withdrawalLine))) .held ≡ held
+keep-same-tests held ledger lines false b = refl
+keep-same-tests held ledger lines true true = refl
+keep-same-tests held ledger lines true false = refl
+
+pub keep-same : (held ledger : List ℕ) (lines : ℕ) → keepWithdrawn held ledger lines .held ≡ held
+unfolding keepWithdrawn
+keep-same held ledger lines = keep-same-tests held ledger lines (isHeld held) (ledgerFull ledger lines)
+
+-- what the check says of 19
+located-tests : (a b : Bool) (p : Place) → (if_then_else_ (not a) C.NotCanonical (if_then_else_ b C.NoPixel (C.At p)) ≡ C.NotCanonical) → a ≡ false
+located-tests false b p e = refl
+located-tests true true p e = let z : _≡_ {A = ℕ} 0 1 = cc in absurd (omega arith)
+located-tests true false p e = let z : _≡_ {A = ℕ} 0 1 = cc in absurd (omega arith)
+
+pub not-located : (held : List ℕ) (pixel : ℕ) → located held pixel ≡ C.NotCanonical → isHeld held ≡ false
+unfolding located
+not-located held pixel e = located-tests (isHeld held) (leb (heldCount held) pixel) (placeIn held pixel) e
+
+other-tests : (a b : Bool) (p : Place) (x : Located) → (if_then_else_ (not a) C.NotCanonical (if_then_else_ b C.NoPixel (C.At p)) ≡ x) → (x ≡ C.NotCanonical → ⊥) → a ≡ true
+other-tests true b p x e f = refl
+other-tests false b p x e f = absurd (f (sym e))
+
+pub no-pixel : (held : List ℕ) (pixel : ℕ) → located held pixel ≡ C.NoPixel → isHeld held ≡ true
+unfolding located
+no-pixel held pixel e = other-tests (isHeld held) (leb (heldCount held) pixel) (placeIn held pixel) C.NoPixel e (λ q. let z : _≡_ {A = ℕ} 0 1 = cc in omega arith)
+
+pub at-place : (held : List ℕ) (pixel : ℕ) (p : Place) → located held pixel ≡ C.At p → isHeld held ≡ true
+unfolding located
+at-place held pixel p e = other-tests (isHeld held) (leb (heldCount held) pixel) (placeIn held pixel) (C.At p) e (λ q. let z : _≡_ {A = ℕ} 0 1 = cc in omega arith)
+
+-- 19 by the check of the held frame
+refusal-tests : (a b : Bool) (p : Place) (r : Refusal) → refusalBy r (if_then_else_ (not a) C.NotCanonical (if_then_else_ b C.NoPixel (C.At p))) ≡ if_then_else_ (not a) R.HeldNotCanonical r
+refusal-tests false b p r = refl
+refusal-tests true true p r = refl
+refusal-tests true false p r = refl
+
+pub refusal-is : (held : List ℕ) (pixel : ℕ) (r : Refusal) → refusalBy r (located held pixel) ≡ heldRefusal held r
+unfolding located heldRefusal
+refusal-is held pixel r = refusal-tests (isHeld held) (leb (heldCount held) pixel) (placeIn held pixel) r
+
+-- what a survey says of the ledger
+surveyed-if : (t : Bool) (x y : Summary) → if_then_else_ t Y.Malformed (Y.Surveyed x) ≡ Y.Surveyed y → (t ≡ false) × (y ≡ x)
+surveyed-if true x y e = let z : _≡_ {A = ℕ} 0 1 = cc in absurd (omega arith)
+surveyed-if false x y e = (refl, cc)
+
+malformed-if : (t : Bool) (x : Summary) → if_then_else_ t Y.Malformed (Y.Surveyed x) ≡ Y.Malformed → t ≡ true
+malformed-if true x e = refl
+malformed-if false x e = let z : _≡_ {A = ℕ} 0 1 = cc in absurd (omega arith)
+
+pub surveyed : (t : List ℕ) (lines : ℕ) (y : Summary) → surveyOf t lines ≡ Y.Surveyed y → (ledgerMalformed t lines ≡ false) × (y .last ≡ lastStanding anyLine 0 (linesOf lines t))
+unfolding surveyOf summaryOf
+surveyed t lines y e =
+    let r = surveyed-if (ledgerMalformed t lines) (summaryOf (linesOf lines t)) y e in
+    (r .0, ap (λ (x : Summary). x .last) (r .1))
+
+pub malformed : (t : List ℕ) (lines : ℕ) → surveyOf t lines ≡ Y.Malformed → ledgerMalformed t lines ≡ true
+unfolding surveyOf
+malformed t lines e = malformed-if (ledgerMalformed t lines) _ e
+
+-- a frame has fewer pixels than 32 bits count
+area-small : (m n : ℕ) → m ≤ 4096 → n ≤ 4096 → m * n ≤ 4294967295
+area-small m n h k = omega (arith, mul-le-mul-left m k, mul-le-mul-right 4096 h)
+
+few : (held : List ℕ) → isHeld held ≡ true → heldCount held ≤ 4294967295
+few held is =
+    let o = opened held is in
+    let b = accepted-bounds held (o .header) (o .accepted) in
+    rw (count-of held (o .header) (o .accepted)) (area-small (o .header .image .rows) (o .header .image .columns) (b .rows-high) (b .columns-high))
+
+outside-tests : (a b : Bool) (p q : Bool) (x y z w v : Outcome) → (a ≡ true → p ≡ true) → (a ≡ true → q ≡ true)
+    → if_then_else_ (not a) x (if_then_else_ b y (if_then_else_ p z w)) ≡ if_then_else_ (not a) x (if_then_else_ b y (if_then_else_ q z v))
+outside-tests false b p q x y z w v f g = refl
+outside-tests true b p q x y z w v f g = rw (f refl, g refl)
+
+correct-within : (held ledger : List ℕ) (lines pixel count : ℕ) → correctOutcome held ledger lines (within32 pixel) count ≡ correctOutcome held ledger lines pixel count
+unfolding within32 correctOutcome
+correct-within held ledger lines pixel count = go (leb pixel 4294967295) refl
+  where
+    go : (t : Bool) → leb pixel 4294967295 ≡ t → correctOutcome held ledger lines (if_then_else_ t pixel 4294967295) count ≡ correctOutcome held ledger lines pixel count
+    go true e = refl
+    go false e =
+        outside-tests (isHeld held) (ledgerMalformed ledger lines) (leb (heldCount held) 4294967295) (leb (heldCount held) pixel) _ _ _ _ _
+        (λ (is : isHeld held ≡ true). le-leb (heldCount held) 4294967295 (few held is))
+        (λ (is : isHeld held ≡ true). le-leb (heldCount held) pixel (let f = few held is in let l = leb-false pixel 4294967295 e in omega arith))
+
+pub correct-clamped : (held ledger : List ℕ) (lines pixel count p : ℕ) → p ≡ within32 pixel → correctOutcome held ledger lines p count ≡ correctOutcome held ledger lines pixel count
+correct-clamped held ledger lines pixel count p e = ap (λ (n : ℕ). correctOutcome held ledger lines n count) e ∙ correct-within held ledger lines pixel count

@@ -1,0 +1,96 @@
+use Rattle.replay.specs.Replay.{ledgerReply, purgeReply, callOf}
+use Rattle.model.specs.Run.{step}
+use borrow.Author.Tests.{ne-eqb}
+use mathlib.Core.Path.{ap, _∙_}
+use borrow.Author.Needs.{needs}
+use Rattle.replay.proofs.make_call.Statement.{statement}
+use Rattle.replay.proofs.make_call.Tie as tie
+use Rattle.replay.proofs.make_call.Reads as reads
+use Rattle.replay.proofs.make_call.Lts as lts
+use Rattle.archive.proofs.correct.Reads as correct-reads
+use Rattle.archive.proofs.withdraw.Reads as withdraw-reads
+use Rattle.ledger.proofs.keep.Reads as keep-reads
+use Rattle.ledger.proofs.may_purge.Reads as may-purge-reads
+use Rattle.replay.proofs.ledger_reply.Reads as ledger-reply-reads
+use Rattle.replay.proofs.purge_reply.Reads as purge-reply-reads
+
+correct-requires : tie.Need-correct-requires
+correct-requires c κs = search needs
+
+ledger-reply-requires : tie.Need-ledger-reply-requires
+ledger-reply-requires c κs = search needs
+
+keep-requires : tie.Need-keep-requires
+keep-requires c κs = search needs
+
+ledger-reply-requires-2 : tie.Need-ledger-reply-requires-2
+ledger-reply-requires-2 c κs = search needs
+
+withdraw-requires : tie.Need-withdraw-requires
+withdraw-requires c κs = search needs
+
+ledger-reply-requires-3 : tie.Need-ledger-reply-requires-3
+ledger-reply-requires-3 c κs = search needs
+
+may-purge-requires : tie.Need-may-purge-requires
+may-purge-requires c κs = search needs
+
+purge-reply-requires : tie.Need-purge-reply-requires
+purge-reply-requires c κs = search needs
+
+same-length : tie.Need-same-length
+same-length c = search needs
+
+same-length-2 : tie.Need-same-length-2
+same-length-2 c = search needs
+
+returns : tie.Need-returns
+unfolding callOf step
+returns c = (rw (c .before .before .before .before .before .before .before .before .match .keys1) (c .ledger-reply .ensures ∙ ap (ledgerReply _) (c .before .before .before .before .before .correct .ensures .0)), (rw (c .before .before .before .before .before .before .before .before .match .keys1) (c .before .before .before .before .before .correct .ensures .1 .0), rw (c .before .before .before .before .before .before .before .before .match .keys1) (c .before .before .before .before .before .correct .ensures .1 .1)))
+
+same-length-3 : tie.Need-same-length-3
+same-length-3 c = search needs
+
+returns-2 : tie.Need-returns-2
+unfolding callOf step
+returns-2 c = (rw (c .before .before .before .before .before .match .keys2) (c .ledger-reply2 .ensures ∙ ap (ledgerReply _) (c .before .before .before .keep .ensures .0)), (rw (c .before .before .before .before .before .match .keys2), rw (c .before .before .before .before .before .match .keys2) (c .before .before .before .keep .ensures .1)))
+
+same-length-4 : tie.Need-same-length-4
+same-length-4 c = search needs
+
+same-length-5 : tie.Need-same-length-5
+same-length-5 c = search needs
+
+returns-3 : tie.Need-returns-3
+unfolding callOf step
+returns-3 c = (rw (c .before .before .before .before .before .before .before .before .match .keys3) (c .ledger-reply3 .ensures ∙ ap (ledgerReply _) (c .before .before .before .before .before .withdraw .ensures .0)), (rw (c .before .before .before .before .before .before .before .before .match .keys3) (c .before .before .before .before .before .withdraw .ensures .1 .0), rw (c .before .before .before .before .before .before .before .before .match .keys3) (c .before .before .before .before .before .withdraw .ensures .1 .1)))
+
+same-length-6 : tie.Need-same-length-6
+same-length-6 c = search needs
+
+returns-4 : tie.Need-returns-4
+unfolding callOf step
+returns-4 c = (rw (ne-eqb _ 0 (c .before .before .before .match .rest .0 .0 .1), ne-eqb _ 1 (c .before .before .before .match .rest .0 .1), ne-eqb _ 2 (c .before .before .before .match .rest .1)) (c .purge-reply .ensures ∙ ap (purgeReply _) (c .before .may-purge .ensures)), (rw (ne-eqb _ 0 (c .before .before .before .match .rest .0 .0 .1), ne-eqb _ 1 (c .before .before .before .match .rest .0 .1), ne-eqb _ 2 (c .before .before .before .match .rest .1)), rw (ne-eqb _ 0 (c .before .before .before .match .rest .0 .0 .1), ne-eqb _ 1 (c .before .before .before .match .rest .0 .1), ne-eqb _ 2 (c .before .before .before .match .rest .1))))
+
+pub make-call-spec : {M : Type 1} → statement M
+make-call-spec =
+    tie.close
+    (tie.spec
+    correct-requires
+    ledger-reply-requires
+    keep-requires
+    ledger-reply-requires-2
+    withdraw-requires
+    ledger-reply-requires-3
+    may-purge-requires
+    purge-reply-requires
+    same-length
+    same-length-2
+    returns
+    same-length-3
+    returns-2
+    same-length-4
+    same-length-5
+    returns-3
+    same-length-6
+    returns-4)

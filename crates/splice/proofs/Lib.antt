@@ -1,0 +1,3 @@
+pub mod Moving
+pub mod Fits
+pub mod Tables

@@ -1,0 +1,85 @@
+//! The plain book: a pile of entries over the pixels opened.
+use crate::frame;
+use crate::ledger::{self, Date, Entry};
+
+pub struct Book {
+    pub header: Vec<u8>,
+    pub opened: Vec<u32>,
+    pub form: (u32, u32),
+    pub held_length: usize,
+    pub ledger_length: usize,
+    pub pile: Vec<Entry>,
+    pub lines: u64,
+}
+
+impl Book {
+    fn is_full(&self) -> bool {
+        self.lines >= (self.ledger_length / ledger::BYTES) as u64
+    }
+
+    pub fn pixels(&self) -> Vec<u32> {
+        let mut pixels = self.opened.clone();
+        for entry in &self.pile {
+            if let Entry::Correction { pixel, new, .. } = entry {
+                pixels[*pixel as usize] = *new;
+            }
+        }
+        pixels
+    }
+
+    /// The held buffer that these pixels have, or 17 or 18.
+    pub fn held(&self, pixels: &[u32]) -> Result<Vec<u8>, u32> {
+        let mut held = vec![0; self.held_length];
+        let (width, underflow) = self.form;
+        match frame::write(&self.header, pixels, width, underflow, &mut held) {
+            Ok(_) => Ok(held),
+            Err(refusal) => Err(refusal.number),
+        }
+    }
+
+    /// Each accepted call hands back the line that the ledger gains.
+    pub fn correct(&mut self, pixel: u64, new: u32) -> Result<Entry, u32> {
+        if pixel >= self.opened.len() as u64 {
+            return Err(24);
+        }
+        if self.is_full() {
+            return Err(21);
+        }
+        let mut pixels = self.pixels();
+        let old = std::mem::replace(&mut pixels[pixel as usize], new);
+        self.held(&pixels)?;
+        let pixel = pixel as u32;
+        let entry = Entry::Correction { pixel, old, new };
+        self.pile.push(entry);
+        self.lines += 1;
+        Ok(entry)
+    }
+
+    pub fn keep(&mut self, date: Date) -> Result<Entry, u32> {
+        if !date.is_calendar() {
+            return Err(25);
+        }
+        if self.is_full() {
+            return Err(21);
+        }
+        self.pile.push(Entry::Keep(date));
+        self.lines += 1;
+        Ok(Entry::Keep(date))
+    }
+
+    pub fn withdraw(&mut self) -> Result<Entry, u32> {
+        if self.pile.is_empty() {
+            return Err(22);
+        }
+        if self.is_full() {
+            return Err(21);
+        }
+        self.pile.pop();
+        self.lines += 1;
+        Ok(Entry::Withdrawal)
+    }
+
+    pub fn may_purge(&self, asked: Date) -> Result<(), u32> {
+        ledger::purge_answer(&self.pile, asked)
+    }
+}

@@ -1,0 +1,188 @@
+//! A case: one call, or a list of calls from an opening, with all that is lent to it.
+use std::fmt::Write;
+
+#[derive(Clone, Copy, Debug, PartialEq, Eq, PartialOrd, Ord)]
+pub enum Call {
+    Read,
+    Write,
+    Open,
+    Correct,
+    Keep,
+    Withdraw,
+    Purge,
+    List,
+}
+
+pub const CALLS: [(Call, &str); 8] = [
+    (Call::Read, "read"),
+    (Call::Write, "write"),
+    (Call::Open, "open"),
+    (Call::Correct, "correct"),
+    (Call::Keep, "keep"),
+    (Call::Withdraw, "withdraw"),
+    (Call::Purge, "purge"),
+    (Call::List, "list"),
+];
+
+impl Call {
+    pub fn name(self) -> &'static str {
+        CALLS[self as usize].1
+    }
+}
+
+/// A call's own arguments. Those that a call does not take are unused.
+#[derive(Clone, Copy, Debug, PartialEq, Eq)]
+pub struct Step {
+    pub call: Call,
+    pub pixel: u64,
+    pub count: u32,
+    pub date: (u32, u32, u32),
+}
+
+#[derive(Clone, Debug, PartialEq, Eq)]
+pub struct Case {
+    pub step: Step,
+    /// The frame read or opened, or the writer's header.
+    pub frame: Vec<u8>,
+    pub pixels: Vec<u32>,
+    pub form: (u32, u32),
+    /// The output or the held buffer.
+    pub buffer: Vec<u8>,
+    pub ledger: Vec<u8>,
+    pub lines: u64,
+    /// The calls of a list, after the opening.
+    pub steps: Vec<Step>,
+}
+
+#[derive(Clone, Copy, Debug, PartialEq, Eq)]
+pub enum Target {
+    Frame,
+    Buffer,
+    Ledger,
+}
+
+/// A change to bytes that are lent.
+#[derive(Clone, Debug)]
+pub enum Mutation {
+    Patch(Target, usize, Vec<u8>),
+    Remove(Target, usize),
+    Resize(Target, usize),
+}
+
+impl Case {
+    pub fn bytes(&self, target: Target) -> &Vec<u8> {
+        match target {
+            Target::Frame => &self.frame,
+            Target::Buffer => &self.buffer,
+            Target::Ledger => &self.ledger,
+        }
+    }
+
+    fn bytes_mut(&mut self, target: Target) -> &mut Vec<u8> {
+        match target {
+            Target::Frame => &mut self.frame,
+            Target::Buffer => &mut self.buffer,
+            Target::Ledger => &mut self.ledger,
+        }
+    }
+
+    pub fn mutated(&self, mutations: &[Mutation]) -> Case {
+        let mut case = self.clone();
+        for mutation in mutations {
+            match mutation {
+                Mutation::Patch(target, at, new) => {
+                    let bytes = case.bytes_mut(*target).iter_mut().skip(*at);
+                    bytes.zip(new).for_each(|(byte, new)| *byte = *new);
+                }
+                Mutation::Remove(target, at) => {
+                    let bytes = case.bytes_mut(*target);
+                    if *at < bytes.len() {
+                        bytes.remove(*at);
+                    }
+                }
+                Mutation::Resize(target, length) => {
+                    case.bytes_mut(*target).resize(*length, 0);
+                }
+            }
+        }
+        case
+    }
+
+    pub fn to_text(&self) -> String {
+        let mut text = String::new();
+        step_line(&mut text, "case", &self.step);
+        let (width, underflow) = self.form;
+        let _ = writeln!(text, "form {width} {underflow} {}", self.lines);
+        for (name, bytes) in [
+            ("frame", &self.frame),
+            ("buffer", &self.buffer),
+            ("ledger", &self.ledger),
+        ] {
+            let _ = writeln!(text, "{name} {}", hex(bytes));
+        }
+        let pixels: Vec<u8> = self.pixels.iter().flat_map(|p| p.to_be_bytes()).collect();
+        let _ = writeln!(text, "pixels {}", hex(&pixels));
+        for step in &self.steps {
+            step_line(&mut text, "step", step);
+        }
+        text
+    }
+
+    pub fn from_text(text: &str) -> Option<Case> {
+        let mut lines = text.lines();
+        let step = parse_step(lines.next()?)?;
+        let numbers = parse_numbers(lines.next()?)?;
+        let mut parts = lines.by_ref().take(4).map(parse_hex);
+        let mut part = || parts.next().flatten();
+        let (frame, buffer, ledger, pixels) = (part()?, part()?, part()?, part()?);
+        let word = |bytes: &[u8]| u32::from_be_bytes([bytes[0], bytes[1], bytes[2], bytes[3]]);
+        Some(Case {
+            step,
+            frame,
+            pixels: pixels.chunks_exact(4).map(word).collect(),
+            form: (*numbers.first()? as u32, *numbers.get(1)? as u32),
+            buffer,
+            ledger,
+            lines: *numbers.get(2)?,
+            steps: lines.map(parse_step).collect::<Option<_>>()?,
+        })
+    }
+}
+
+fn step_line(text: &mut String, word: &str, step: &Step) {
+    let (year, month, day) = step.date;
+    let call = step.call as usize;
+    let (pixel, count) = (step.pixel, step.count);
+    let _ = writeln!(text, "{word} {call} {pixel} {count} {year} {month} {day}");
+}
+
+fn parse_numbers(line: &str) -> Option<Vec<u64>> {
+    let words = line.split_whitespace().skip(1);
+    words.map(|word| word.parse().ok()).collect()
+}
+
+fn parse_step(line: &str) -> Option<Step> {
+    let numbers = parse_numbers(line)?;
+    let [call, pixel, count, year, month, day] = numbers[..] else {
+        return None;
+    };
+    Some(Step {
+        call: CALLS.get(call as usize)?.0,
+        pixel,
+        count: count as u32,
+        date: (year as u32, month as u32, day as u32),
+    })
+}
+
+fn hex(bytes: &[u8]) -> String {
+    bytes.iter().fold(String::new(), |mut text, byte| {
+        let _ = write!(text, "{byte:02x}");
+        text
+    })
+}
+
+fn parse_hex(line: &str) -> Option<Vec<u8>> {
+    let digits = line.split_whitespace().nth(1).unwrap_or("");
+    let pair = |at: usize| u8::from_str_radix(digits.get(at..at + 2)?, 16).ok();
+    (0..digits.len()).step_by(2).map(pair).collect()
+}

@@ -1,0 +1,253 @@
+//! Both answers to a case, and the shrinking of a case on which they differ.
+use crate::book::Book;
+use crate::case::{Call, Case, Mutation, Step};
+use crate::fault::Fault;
+use crate::ledger::{self, Date, Entry};
+use crate::library;
+use crate::{frame, held};
+
+/// What a case gave: the answers and every lent byte after each call.
+#[derive(Debug, PartialEq, Eq)]
+pub struct Outcome {
+    pub met: Vec<(Call, u64)>,
+    answers: Vec<Vec<u64>>,
+    /// A digest of the held buffer and the ledger after each call of a list.
+    digests: Vec<u64>,
+    after: Case,
+    respected: bool,
+}
+
+impl Outcome {
+    fn new(case: &Case) -> Self {
+        Outcome {
+            met: Vec::new(),
+            answers: Vec::new(),
+            digests: Vec::new(),
+            after: case.clone(),
+            respected: true,
+        }
+    }
+
+    fn note(&mut self, call: Call, answer: Vec<u64>) -> u64 {
+        self.met.push((call, answer[0]));
+        self.answers.push(answer);
+        self.met[self.met.len() - 1].1
+    }
+
+    fn digest(&mut self) {
+        let bytes = self.after.buffer.iter().chain(&self.after.ledger);
+        let step = |sum: u64, byte: &u8| (sum ^ u64::from(*byte)).wrapping_mul(0x100_0000_01B3);
+        self.digests.push(bytes.fold(0xCBF2_9CE4_8422_2325, step));
+    }
+}
+
+fn library_step(fault: Fault, step: &Step, out: &mut Outcome) -> u64 {
+    let case = &mut out.after;
+    let (held, ledger) = (&mut case.buffer, &mut case.ledger);
+    let (answer, respected) = match step.call {
+        Call::Read => library::read(&case.frame, &mut case.pixels),
+        Call::Write => fault.write(&case.frame, &case.pixels, case.form, held),
+        Call::Open | Call::List => library::open(&case.frame, &mut case.pixels, case.form, held),
+        Call::Correct => fault.correct(held, ledger, case.lines, step.pixel, step.count),
+        Call::Keep => library::keep(ledger, case.lines, step.date),
+        Call::Withdraw => library::withdraw(held, ledger, case.lines),
+        Call::Purge => library::may_purge(ledger, case.lines, step.date),
+    };
+    if matches!(step.call, Call::Correct | Call::Keep | Call::Withdraw) {
+        case.lines = answer[1];
+    }
+    out.respected &= respected;
+    let call = if step.call == Call::List {
+        Call::Open
+    } else {
+        step.call
+    };
+    out.note(call, answer)
+}
+
+pub fn by_library(fault: Fault, case: &Case) -> Outcome {
+    let mut out = Outcome::new(case);
+    let refusal = library_step(fault, &case.step, &mut out);
+    if case.step.call == Call::List && refusal == 0 {
+        for step in &case.steps {
+            library_step(fault, step, &mut out);
+            out.digest();
+        }
+    }
+    out
+}
+
+fn date(step: &Step) -> Date {
+    let (year, month, day) = step.date;
+    Date { year, month, day }
+}
+
+fn refusal_words(refusal: frame::Refusal) -> Vec<u64> {
+    vec![refusal.number.into(), refusal.place.into(), 0]
+}
+
+fn open_answer(case: &mut Case) -> Vec<u64> {
+    let held = &mut case.buffer;
+    let (extent, length) = held::open(&case.frame, &mut case.pixels, case.form, held);
+    let mut answer = length.map_or_else(refusal_words, |_| vec![0; 3]);
+    answer.extend([extent.rows.into(), extent.columns.into(), extent.end]);
+    answer.push(length.unwrap_or(0));
+    answer
+}
+
+fn read_answer(case: &mut Case) -> Vec<u64> {
+    let found = frame::read(&case.frame, &mut case.pixels);
+    let mut answer = found.map_or_else(refusal_words, |_| vec![0; 3]);
+    let extent = found.unwrap_or_default();
+    answer.extend([extent.rows.into(), extent.columns.into(), extent.end]);
+    answer
+}
+
+fn write_answer(case: &mut Case) -> Vec<u64> {
+    let (width, underflow) = case.form;
+    let out = &mut case.buffer;
+    let length = frame::write(&case.frame, &case.pixels, width, underflow, out);
+    let mut answer = length.map_or_else(refusal_words, |_| vec![0; 3]);
+    answer.push(length.unwrap_or(0));
+    answer
+}
+
+fn ledger_answer(result: Result<(), u32>, lines: &mut u64) -> Vec<u64> {
+    *lines += u64::from(result.is_ok());
+    vec![result.err().unwrap_or(0).into(), *lines]
+}
+
+fn second_step(step: &Step, out: &mut Outcome) -> u64 {
+    let case = &mut out.after;
+    let (held, ledger) = (&mut case.buffer, &mut case.ledger);
+    let lines = case.lines;
+    let answer = match step.call {
+        Call::Read => read_answer(case),
+        Call::Write => write_answer(case),
+        Call::Open | Call::List => open_answer(case),
+        Call::Correct => {
+            let result = held::correct(held, ledger, lines, step.pixel, step.count);
+            ledger_answer(result, &mut case.lines)
+        }
+        Call::Keep => ledger_answer(ledger::keep(ledger, lines, date(step)), &mut case.lines),
+        Call::Withdraw => {
+            let result = held::withdraw(held, ledger, lines);
+            ledger_answer(result, &mut case.lines)
+        }
+        Call::Purge => {
+            let result = ledger::may_purge(ledger, lines, date(step));
+            vec![result.err().unwrap_or(0).into()]
+        }
+    };
+    let call = if step.call == Call::List {
+        Call::Open
+    } else {
+        step.call
+    };
+    out.note(call, answer)
+}
+
+/// Enters one call into the book and brings the held buffer and the ledger to what it says.
+fn book_step(step: &Step, book: &mut Book, out: &mut Outcome) {
+    let result = match step.call {
+        Call::Correct => book.correct(step.pixel, step.count).map(Some),
+        Call::Keep => book.keep(date(step)).map(Some),
+        Call::Withdraw => book.withdraw().map(Some),
+        _ => book.may_purge(date(step)).map(|()| None),
+    };
+    if let Ok(Some(entry)) = result {
+        ledger::append(&mut out.after.ledger, out.after.lines, entry);
+        out.after.buffer = book.held(&book.pixels()).unwrap_or_default();
+        out.after.lines += 1;
+    }
+    let mut answer = vec![result.err().unwrap_or(0).into()];
+    if step.call != Call::Purge {
+        answer.push(book.lines);
+    }
+    out.note(step.call, answer);
+    out.digest();
+}
+
+fn without_old(entries: &[Entry]) -> Vec<Entry> {
+    let cleared = |entry: &Entry| match *entry {
+        Entry::Correction { pixel, new, .. } => Entry::Correction { pixel, old: 0, new },
+        other => other,
+    };
+    entries.iter().map(cleared).collect()
+}
+
+pub fn by_second_reader(case: &Case) -> Outcome {
+    let mut out = Outcome::new(case);
+    let refusal = second_step(&case.step, &mut out);
+    if case.step.call != Call::List || refusal != 0 {
+        return out;
+    }
+    let pixels = out.answers[0][3] * out.answers[0][4];
+    let mut book = Book {
+        header: case.frame.clone(),
+        opened: out.after.pixels[..pixels as usize].to_vec(),
+        form: case.form,
+        held_length: case.buffer.len(),
+        ledger_length: case.ledger.len(),
+        pile: Vec::new(),
+        lines: 0,
+    };
+    for step in &case.steps {
+        book_step(step, &mut book, &mut out);
+    }
+    let lines = ledger::entries(&out.after.ledger, book.lines).unwrap_or_default();
+    let standing = ledger::standing(&lines);
+    assert_eq!(without_old(&standing), without_old(&book.pile), "the pile");
+    out
+}
+
+pub fn differ(fault: Fault, case: &Case) -> bool {
+    by_library(fault, case) != by_second_reader(case)
+}
+
+/// Leaves out runs of a list, halving the runs, while the rest still shows the difference.
+pub fn shrink_list<T: Clone>(mut list: Vec<T>, still: impl Fn(&[T]) -> bool) -> Vec<T> {
+    let mut run = list.len().div_ceil(2);
+    while run > 0 {
+        let mut from = 0;
+        while from < list.len() {
+            let mut rest = list.clone();
+            rest.drain(from..(from + run).min(list.len()));
+            if still(&rest) {
+                list = rest;
+            } else {
+                from += run;
+            }
+        }
+        run /= 2;
+    }
+    list
+}
+
+pub fn shrink(fault: Fault, case: &Case, mutations: Vec<Mutation>) -> Case {
+    let kept = shrink_list(mutations, |some| differ(fault, &case.mutated(some)));
+    let mut small = case.mutated(&kept);
+    let with = |steps: &[Step]| Case {
+        steps: steps.to_vec(),
+        ..small.clone()
+    };
+    small.steps = shrink_list(small.steps.clone(), |some| differ(fault, &with(some)));
+    small
+}
+
+/// Says where the two outcomes part.
+pub fn describe(fault: Fault, case: &Case) -> String {
+    let (left, right) = (by_library(fault, case), by_second_reader(case));
+    let first = |a: &[u8], b: &[u8]| a.iter().zip(b).position(|(a, b)| a != b);
+    let pixel = |a: &[u32], b: &[u32]| a.iter().zip(b).position(|(a, b)| a != b);
+    format!(
+        "library {:?}\nsecond  {:?}\nguards and read-only bytes respected: {}\n\
+         first different byte of buffer {:?}, of ledger {:?}, first different pixel {:?}\n",
+        left.answers,
+        right.answers,
+        left.respected,
+        first(&left.after.buffer, &right.after.buffer),
+        first(&left.after.ledger, &right.after.ledger),
+        pixel(&left.after.pixels, &right.after.pixels),
+    )
+}

@@ -1,0 +1,70 @@
+//! Deliberate faults laid over the library, to see that the comparison finds them.
+use crate::frame::read_header;
+use crate::library::{self, Answer};
+
+#[derive(Clone, Copy, Debug, PartialEq, Eq)]
+pub enum Fault {
+    None,
+    /// Kind none in width 1 stores 255 as a plain value.
+    Threshold,
+    /// The writer leaves the bytes after the frame as they were.
+    Tail,
+    /// A correction judges the pixel number before the ledger.
+    Order,
+}
+
+impl Fault {
+    pub fn numbered(number: u64) -> Option<Fault> {
+        let faults = [Fault::None, Fault::Threshold, Fault::Tail, Fault::Order];
+        faults.get(number as usize).copied()
+    }
+
+    pub fn write(self, header: &[u8], pixels: &[u32], form: (u32, u32), out: &mut [u8]) -> Answer {
+        let before = out.to_vec();
+        let mut given = pixels.to_vec();
+        if self == Fault::Threshold && form == (1, 0) {
+            for pixel in given.iter_mut().filter(|pixel| **pixel == 255) {
+                *pixel = 254;
+            }
+        }
+        let (numbers, respected) = library::write(header, &given, form, out);
+        if numbers[0] == 0 && given != pixels {
+            mark_plain(header, pixels, out);
+        }
+        if numbers[0] == 0 && self == Fault::Tail {
+            let length = numbers[3] as usize;
+            out[length..].copy_from_slice(&before[length..]);
+        }
+        (numbers, respected)
+    }
+
+    pub fn correct(
+        self,
+        held: &mut [u8],
+        ledger: &mut [u8],
+        lines: u64,
+        pixel: u64,
+        count: u32,
+    ) -> Answer {
+        if self == Fault::Order {
+            let (mut frame, mut pages) = (held.to_vec(), ledger.to_vec());
+            let (early, respected) = library::correct(&mut frame, &mut pages, 0, pixel, count);
+            if early[0] == 24 {
+                return (vec![24, lines], respected);
+            }
+        }
+        library::correct(held, ledger, lines, pixel, count)
+    }
+}
+
+fn mark_plain(header: &[u8], pixels: &[u32], out: &mut [u8]) {
+    let Ok(found) = read_header(header) else {
+        return;
+    };
+    let image = &mut out[found.length..found.length + found.pixels()];
+    for (stored, pixel) in image.iter_mut().zip(pixels) {
+        if *pixel == 255 {
+            *stored = 255;
+        }
+    }
+}

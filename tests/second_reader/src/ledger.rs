@@ -1,0 +1,154 @@
+//! The ledger: its lines, dates, and the calls that look at nothing else.
+
+pub const BYTES: usize = 16;
+
+#[derive(Clone, Copy, Debug, PartialEq, Eq, PartialOrd, Ord)]
+pub struct Date {
+    pub year: u32,
+    pub month: u32,
+    pub day: u32,
+}
+
+#[derive(Clone, Copy, Debug, PartialEq, Eq)]
+pub enum Entry {
+    Correction { pixel: u32, old: u32, new: u32 },
+    Keep(Date),
+    Withdrawal,
+}
+
+fn is_leap(year: u32) -> bool {
+    year.is_multiple_of(4) && (!year.is_multiple_of(100) || year.is_multiple_of(400))
+}
+
+impl Date {
+    pub fn is_calendar(self) -> bool {
+        let days = match self.month {
+            2 if is_leap(self.year) => 29,
+            2 => 28,
+            4 | 6 | 9 | 11 => 30,
+            1..=12 => 31,
+            _ => 0,
+        };
+        (1..=4095).contains(&self.year) && (1..=days).contains(&self.day)
+    }
+}
+
+impl Entry {
+    pub fn bytes(self) -> [u8; BYTES] {
+        let word = match self {
+            Entry::Correction { pixel, old, new } => {
+                u128::from(pixel) << 81 | u128::from(old) << 49 | u128::from(new) << 17
+            }
+            Entry::Keep(date) => {
+                let date = u128::from(date.year << 9 | date.month << 5 | date.day);
+                1 << 126 | date << 105
+            }
+            Entry::Withdrawal => 2 << 126,
+        };
+        word.to_be_bytes()
+    }
+
+    /// The entry whose line these bytes are, if any.
+    pub fn parse(bytes: &[u8]) -> Option<Entry> {
+        let word = u128::from_be_bytes(bytes.try_into().ok()?);
+        let cut = |from: u32, width: u32| (word >> from & ((1 << width) - 1)) as u32;
+        let date = Date {
+            year: cut(114, 12),
+            month: cut(110, 4),
+            day: cut(105, 5),
+        };
+        let entry = match cut(126, 2) {
+            0 => Entry::Correction {
+                pixel: cut(81, 24),
+                old: cut(49, 32),
+                new: cut(17, 32),
+            },
+            1 if date.is_calendar() => Entry::Keep(date),
+            2 => Entry::Withdrawal,
+            _ => return None,
+        };
+        (entry.bytes() == bytes).then_some(entry)
+    }
+}
+
+/// Whether the entry at a place stands, counted on from the one after it.
+fn stands(entries: &[Entry], place: usize) -> bool {
+    let mut balance = 0i64;
+    for entry in &entries[place + 1..] {
+        balance += if *entry == Entry::Withdrawal { 1 } else { -1 };
+        if balance > 0 {
+            return false;
+        }
+    }
+    entries[place] != Entry::Withdrawal
+}
+
+pub fn standing(entries: &[Entry]) -> Vec<Entry> {
+    let places = (0..entries.len()).filter(|place| stands(entries, *place));
+    places.map(|place| entries[place]).collect()
+}
+
+pub fn last_standing(entries: &[Entry]) -> Option<Entry> {
+    let last = (0..entries.len())
+        .rev()
+        .find(|place| stands(entries, *place));
+    last.map(|place| entries[place])
+}
+
+/// The lines claimed, or 20.
+pub fn entries(ledger: &[u8], lines: u64) -> Result<Vec<Entry>, u32> {
+    if lines > (ledger.len() / BYTES) as u64 {
+        return Err(20);
+    }
+    let mut found = Vec::new();
+    for bytes in ledger.chunks_exact(BYTES).take(lines as usize) {
+        let entry = Entry::parse(bytes).ok_or(20u32)?;
+        if entry == Entry::Withdrawal && last_standing(&found).is_none() {
+            return Err(20);
+        }
+        found.push(entry);
+    }
+    Ok(found)
+}
+
+pub fn is_full(ledger: &[u8], lines: u64) -> bool {
+    lines >= (ledger.len() / BYTES) as u64
+}
+
+pub fn append(ledger: &mut [u8], lines: u64, entry: Entry) {
+    let from = lines as usize * BYTES;
+    ledger[from..from + BYTES].copy_from_slice(&entry.bytes());
+}
+
+pub fn keep(ledger: &mut [u8], lines: u64, date: Date) -> Result<(), u32> {
+    entries(ledger, lines)?;
+    if !date.is_calendar() {
+        return Err(25);
+    }
+    if is_full(ledger, lines) {
+        return Err(21);
+    }
+    append(ledger, lines, Entry::Keep(date));
+    Ok(())
+}
+
+/// What a purge question is told, given the standing entries.
+pub fn purge_answer(standing: &[Entry], asked: Date) -> Result<(), u32> {
+    if !asked.is_calendar() {
+        return Err(25);
+    }
+    let dates = standing.iter().rev().filter_map(|entry| match entry {
+        Entry::Keep(date) => Some(*date),
+        _ => None,
+    });
+    match dates.take(1).next() {
+        None => Err(26),
+        Some(date) if date < asked => Ok(()),
+        Some(_) => Err(27),
+    }
+}
+
+pub fn may_purge(ledger: &[u8], lines: u64, asked: Date) -> Result<(), u32> {
+    let entries = entries(ledger, lines)?;
+    purge_answer(&standing(&entries), asked)
+}

@@ -1,0 +1,76 @@
+//! Counts per call and refusal.
+use crate::case::{Call, CALLS};
+use std::collections::BTreeMap;
+
+#[derive(Default)]
+pub struct Tally {
+    cases: u64,
+    lists: u64,
+    met: BTreeMap<(Call, u64), u64>,
+}
+
+/// The refusals that a call can meet, and 0.
+fn possible(call: Call) -> Vec<u64> {
+    let reading = 0..=15;
+    match call {
+        Call::Read => reading.collect(),
+        Call::Write => (0..=10).chain(16..=18).collect(),
+        Call::Open => reading.chain(16..=18).collect(),
+        Call::Correct => vec![0, 17, 18, 19, 20, 21, 24],
+        Call::Keep => vec![0, 20, 21, 25],
+        Call::Withdraw => vec![0, 17, 18, 19, 20, 21, 22, 23, 24],
+        Call::Purge => vec![0, 20, 25, 26, 27],
+        Call::List => Vec::new(),
+    }
+}
+
+impl Tally {
+    pub fn add(&mut self, call: Call, met: &[(Call, u64)]) {
+        self.cases += 1;
+        self.lists += u64::from(call == Call::List);
+        for key in met {
+            *self.met.entry(*key).or_default() += 1;
+        }
+    }
+
+    pub fn cases(&self) -> u64 {
+        self.cases
+    }
+
+    fn count(&self, call: Call, refusal: u64) -> u64 {
+        self.met.get(&(call, refusal)).copied().unwrap_or(0)
+    }
+
+    pub fn all_reached(&self) -> bool {
+        let reached = |call: Call| possible(call).iter().all(|r| self.count(call, *r) > 0);
+        CALLS.iter().all(|(call, _)| reached(*call))
+    }
+
+    pub fn print(&self) {
+        println!(
+            "cases {}, of them lists of calls {}",
+            self.cases, self.lists
+        );
+        print!("{:>8}", "refusal");
+        let calls = &CALLS[..CALLS.len() - 1];
+        calls.iter().for_each(|(_, name)| print!("{name:>10}"));
+        println!();
+        for refusal in 0..=27 {
+            print!("{refusal:>8}");
+            for (call, _) in calls {
+                match (
+                    self.count(*call, refusal),
+                    possible(*call).contains(&refusal),
+                ) {
+                    (0, false) => print!("{:>10}", "."),
+                    (0, true) => print!("{:>10}", "MISSED"),
+                    (count, _) => print!("{count:>10}"),
+                }
+            }
+            println!();
+        }
+        if !self.all_reached() {
+            println!("a refusal marked MISSED was not reached: give it more seconds");
+        }
+    }
+}

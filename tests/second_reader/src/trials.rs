@@ -1,0 +1,116 @@
+//! The second reader against values worked out by hand.
+use crate::case::Case;
+use crate::compare;
+use crate::frame::{self, Refusal};
+use crate::generate;
+use crate::ledger::{self, Date, Entry};
+use crate::random::Random;
+use crate::sample::{self, Layout};
+
+fn one_row(columns: usize, width: u32, underflow: u32) -> Layout {
+    Layout {
+        format: 100,
+        blocks: 15,
+        rows: 1,
+        columns,
+        width,
+        underflow,
+        baseline: 32,
+        counts: vec![if underflow == 0 { -1 } else { 0 }, 0, 0],
+    }
+}
+
+/// The bytes after the header that the writer gives for these pixels.
+fn body(pixels: &[u32], width: u32, underflow: u32) -> Vec<u8> {
+    let layout = one_row(pixels.len(), width, underflow);
+    let header = sample::header(&mut Random(1), &layout);
+    let mut out = vec![9; header.len() + 400];
+    let length = frame::write(&header, pixels, width, underflow, &mut out);
+    let length = length.map_or(0, |length| length as usize);
+    let mut again = vec![0; pixels.len()];
+    assert!(frame::read(&out, &mut again).is_ok_and(|extent| extent.end == length as u64));
+    assert_eq!(again, pixels);
+    assert!(out[length..].iter().all(|byte| *byte == 0));
+    out[header.len()..length].to_vec()
+}
+
+#[test]
+fn four_pixels_with_every_table() {
+    let body = body(&[35, 332, 70032, 30], 1, 1);
+    let mut expected = vec![3, 255, 255, 0, 30];
+    expected.resize(20, 0);
+    expected.extend([44, 1, 255, 255]);
+    expected.resize(36, 0);
+    expected.extend([0x70, 0x11, 1, 0]);
+    expected.resize(52, 0);
+    assert_eq!(body, expected);
+}
+
+#[test]
+fn thresholds() {
+    let lengths = [(254, 1), (255, 17), (65534, 17), (65535, 33)];
+    for (pixel, length) in lengths {
+        assert_eq!(body(&[pixel], 1, 0).len(), length);
+    }
+    assert_eq!(body(&[65535], 4, 0).len(), 4);
+    assert_eq!(body(&[32], 1, 1).len(), 17);
+    assert_eq!(body(&[33], 1, 1), [1]);
+    assert_eq!(body(&[300; 8], 1, 0).len(), 8 + 16);
+    assert_eq!(body(&[300; 9], 1, 0).len(), 9 + 32);
+    assert_eq!(body(&[70000; 5], 2, 0).len(), 10 + 32);
+}
+
+#[test]
+fn count_0_and_a_stored_0() {
+    for (underflow, answer) in [(1, Some(14)), (0, None)] {
+        let mut frame = sample::header(&mut Random(2), &one_row(1, 1, underflow));
+        frame.push(0);
+        let found = frame::read(&frame, &mut [7]);
+        assert_eq!(found.err().map(|refusal: Refusal| refusal.number), answer);
+    }
+}
+
+fn day(year: u32, month: u32, day: u32) -> Date {
+    Date { year, month, day }
+}
+
+#[test]
+fn keep_line() {
+    let mut ledger = vec![1; 16];
+    assert_eq!(ledger::keep(&mut ledger, 0, day(2031, 11, 2)), Ok(()));
+    assert_eq!(ledger[..4], [0x5F, 0xBE, 0xC4, 0]);
+    assert_eq!(ledger[4..], [0; 12]);
+    assert_eq!(ledger::may_purge(&ledger, 1, day(2031, 11, 2)), Err(27));
+    assert_eq!(ledger::may_purge(&ledger, 1, day(2031, 11, 3)), Ok(()));
+    assert_eq!(ledger::keep(&mut ledger, 0, day(1900, 2, 29)), Err(25));
+}
+
+#[test]
+fn standing_after_two_withdrawals() {
+    let correction = |pixel| Entry::Correction {
+        pixel,
+        old: 1,
+        new: 2,
+    };
+    let keep = Entry::Keep(day(2031, 11, 2));
+    let gone = Entry::Withdrawal;
+    let lines = [correction(1), keep, correction(2), gone, gone];
+    assert_eq!(ledger::standing(&lines), [correction(1)]);
+}
+
+#[test]
+fn case_files_come_back() {
+    let mut random = Random(3);
+    for _ in 0..200 {
+        let (base, mutations) = generate::case(&mut random);
+        let case = base.mutated(&mutations);
+        assert_eq!(Case::from_text(&case.to_text()), Some(case));
+    }
+}
+
+#[test]
+fn shrinking_keeps_what_is_needed() {
+    let needed = |some: &[u32]| some.contains(&37) && some.contains(&59);
+    let kept = compare::shrink_list((0..100).collect(), needed);
+    assert_eq!(kept, [37, 59]);
+}
