@@ -2,7 +2,7 @@
 -- Assumes nothing.
 use mathlib.Core.Path.{_≡_, refl, sym, _∙_}
 use mathlib.Core.Bool.{Bool, true, false, _||_, or-false}
-use mathlib.Core.List.{List, _∷_, _++_, append-nil, map}
+use mathlib.Core.List.{List, _∷_, _++_, append-nil, map, map-append}
 use Prim.Native.Nat.{ℕ, suc, _+_, _≤_, _<_}
 use native.Mathlib.Nat.{add-zero}
 use native.Mathlib.Numerals.{add-one}
@@ -163,3 +163,23 @@ mapping-more {g} {xs₀} {xs} {i} {v} f h ev =
 
 pub mapping-done : {g : ℕ → ℕ} {xs₀ xs : List ℕ} {i : ℕ} → Mapping g xs₀ xs i → length xs ≤ i → xs ≡ map g xs₀
 mapping-done {g} {xs₀} {xs} {i} f h = sym (append-nil xs) ∙ (rw (drop-of-length-le xs h, take-all i xs h) at (f .rest))
+
+-- g of another list's numbers, at the first i places
+pub record Copying (g : ℕ → ℕ) (src xs₀ xs : List ℕ) (i : ℕ) : Type 0 where
+  pub upto : i ≤ length xs
+  pub same : length xs ≡ length xs₀
+  pub is : take i xs ≡ map g (take i src)
+
+pub copying-start : (g : ℕ → ℕ) (src xs : List ℕ) → Copying g src xs xs 0
+copying-start g src xs = record { upto = omega arith; same = refl; is = refl }
+
+pub copying-more : {g : ℕ → ℕ} {src xs₀ xs : List ℕ} {i v : ℕ} → Copying g src xs₀ xs i → i < length xs → i < length src → v ≡ g (getD src i 0)
+    → Copying g src xs₀ (set xs i v) (i + 1)
+copying-more {g} {src} {xs₀} {xs} {i} {v} f h k ev = record {
+  upto = simp length-set (omega arith);
+  same = simp length-set (f .same);
+  is = rw (add-one, take-suc-set, take-suc src i 0 k, map-append, f .is, ev);
+}
+
+pub copying-done : {g : ℕ → ℕ} {src xs₀ xs : List ℕ} {i : ℕ} → Copying g src xs₀ xs i → length xs ≤ i → length src ≤ i → xs ≡ map g src
+copying-done {g} {src} {xs₀} {xs} {i} f h k = rw (take-all i xs h, take-all i src k) at (f .is)

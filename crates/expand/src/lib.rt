@@ -379,6 +379,200 @@ fn blocks(
     t
 }
 
+// Numbers that are bytes, each with base.
+fn lift_bytes(image: &[u8], base: u32, pixels: &mut [u32])
+    requires { ⌜ length (now image) ≡ length (now pixels) ⌝ }
+    ensures { λ _. ⌜ now (pixels .exit) ≡ map (wrapped base) (now (image .entry)) ⌝ }
+{
+    let mut i = 0;
+    while i < pixels.len() {
+        pixels[i] = std::num::wrapping_add_u32(image[i] as u32, base);
+        i += 1;
+    }
+}
+
+// Each number that is base, a 0 before it was lifted, takes the next underflow entry.
+fn fill_lifted(pixels: &mut [u32], base: u32, under: &[u8], e: EntryWidth, from: usize) -> usize
+    requires { ⌜ from + length (now pixels) < 2 ^ 64 ⌝ }
+    ensures { λ r. ⌜ r ≡ from + count base (now (pixels .entry)) ⌝ }
+    ensures { λ _. ⌜ now (pixels .exit) ≡ replace base (now (pixels .entry)) (drop from (wholeEntries (entryBytes e) (now (under .entry)))) ⌝ }
+{
+    match e {
+        EntryWidth::One => fill_marked(pixels, base, under, Width::One, from),
+        EntryWidth::Two => fill_marked(pixels, base, under, Width::Two, from),
+    }
+}
+
+// Step c of a block where few zeros are expected: every number gains base, and then zeros take their entries.
+fn lift_few(pixels: &mut [u32], under: &[u8], c: StepC, u: Under) -> Under
+    requires { ⌜ u .next + length (now pixels) < 2 ^ 64 ⌝ }
+    ensures { λ r. ⌜ Lifted true (c .baseline) (now (pixels .entry)) (wholeEntries (entryBytes (c .width)) (now (under .entry))) (now (pixels .exit)) u r ⌝ }
+{
+    let base = c.baseline;
+    let e = c.width;
+    let large = any_too_large(pixels, base);
+    let over = either(u.over, large);
+    lift(pixels, base);
+    if !has_mark(pixels, base) {
+        return Under { next: u.next, over };
+    }
+    let next = fill_lifted(pixels, base, under, e, u.next);
+    Under { next, over }
+}
+
+// Step c of a block of bytes, none of them 255.
+fn lift_few_bytes(image: &[u8], under: &[u8], c: StepC, pixels: &mut [u32], next: usize) -> usize
+    requires { ⌜ (length (now image) ≡ length (now pixels)) × (next + length (now pixels) < 2 ^ 64) ⌝ }
+    ensures { λ r. ⌜ r ≡ next + count 0 (now (image .entry)) ⌝ }
+    ensures { λ _. ⌜ now (pixels .exit) ≡ fillBy 0 (wrapped (c .baseline)) (now (image .entry)) (drop next (wholeEntries (entryBytes (c .width)) (now (under .entry)))) ⌝ }
+{
+    let base = c.baseline;
+    let e = c.width;
+    lift_bytes(image, base, pixels);
+    if has_byte(image, 0) {
+        fill_lifted(pixels, base, under, e, next)
+    } else {
+        next
+    }
+}
+
+// The three steps of a block of width 1 with a 255.
+fn step_marked(
+    image: &[u8],
+    two: &[u8],
+    four: &[u8],
+    under: &[u8],
+    c: StepC,
+    pixels: &mut [u32],
+    t: Taken,
+) -> Taken
+    requires { ⌜ (length (now image) ≡ length (now pixels)) × (t .two + length (now pixels) < 2 ^ 64) × (t .four + length (now pixels) < 2 ^ 64) × (t .under + length (now pixels) < 2 ^ 64) ⌝ }
+    ensures { λ r. ⌜ Stepped 1 true (c .baseline) (partsOf 1 (entryBytes (c .width)) (length (now (pixels .entry))) (now (image .entry)) (now (under .entry)) (now (two .entry)) (now (four .entry))) (now (pixels .exit)) t r ⌝ }
+{
+    let k = replace_block1(
+        image,
+        two,
+        four,
+        pixels,
+        Cursors {
+            two: t.two,
+            four: t.four,
+        },
+    );
+    let u = lift_few(
+        pixels,
+        under,
+        c,
+        Under {
+            next: t.under,
+            over: t.over,
+        },
+    );
+    Taken {
+        two: k.two,
+        four: k.four,
+        under: u.next,
+        over: u.over,
+    }
+}
+
+// The three steps of a block of width 1 where few zeros are expected. A byte and a baseline of two bytes have no sum that is too large.
+fn step_few(
+    image: &[u8],
+    two: &[u8],
+    four: &[u8],
+    under: &[u8],
+    c: StepC,
+    pixels: &mut [u32],
+    t: Taken,
+) -> Taken
+    requires { ⌜ (length (now image) ≡ length (now pixels)) × (c .baseline ≤ 65535) × (t .two + length (now pixels) < 2 ^ 64) × (t .four + length (now pixels) < 2 ^ 64) × (t .under + length (now pixels) < 2 ^ 64) ⌝ }
+    ensures { λ r. ⌜ Stepped 1 true (c .baseline) (partsOf 1 (entryBytes (c .width)) (length (now (pixels .entry))) (now (image .entry)) (now (under .entry)) (now (two .entry)) (now (four .entry))) (now (pixels .exit)) t r ⌝ }
+{
+    if has_byte(image, 255) {
+        return step_marked(image, two, four, under, c, pixels, t);
+    }
+    let under = lift_few_bytes(image, under, c, pixels, t.under);
+    Taken {
+        two: t.two,
+        four: t.four,
+        under,
+        over: t.over,
+    }
+}
+
+// The three steps of all blocks of width 1 where few zeros are expected. Every block but the last has 64 pixels, so that its loops have a fixed length.
+fn few_blocks(
+    image: &[u8],
+    two: &[u8],
+    four: &[u8],
+    under: &[u8],
+    c: StepC,
+    pixels: &mut [u32],
+) -> Taken
+    requires { ⌜ (length (now pixels) ≤ length (now image)) × (c .applies ≡ true) × (c .baseline ≤ 65535) ⌝ }
+    ensures { λ r. ⌜ Whole 1 (c .applies) (c .baseline) (partsOf 1 (entryBytes (c .width)) (length (now (pixels .entry))) (now (image .entry)) (now (under .entry)) (now (two .entry)) (now (four .entry))) (now (pixels .exit)) r ⌝ }
+{
+    let mut t = Taken {
+        two: 0,
+        four: 0,
+        under: 0,
+        over: false,
+    };
+    let n = pixels.len();
+    let mut p = 0;
+    while 64 <= n - p {
+        let e = p + 64;
+        t = step_few(&image[p..e], two, four, under, c, &mut pixels[p..e], t);
+        p = e;
+    }
+    step_block(
+        &image[p..],
+        Width::One,
+        two,
+        four,
+        under,
+        c,
+        &mut pixels[p..n],
+        t,
+    )
+}
+
+// Whether few zeros are expected of n pixels, by the count that is stated, and the baseline is of two bytes.
+fn expects_few(c: StepC, n: usize) -> bool
+    ensures { λ r. ⌜ (r ≡ true → (c .applies ≡ true) × (c .baseline ≤ 65535)) ⌝ }
+{
+    if !c.applies {
+        return false;
+    }
+    if 65535 < c.baseline {
+        return false;
+    }
+    c.count as usize <= n / 16
+}
+
+// The three steps of all blocks, by the way that suits the frame.
+fn all_blocks(
+    image: &[u8],
+    w: Width,
+    two: &[u8],
+    four: &[u8],
+    under: &[u8],
+    c: StepC,
+    pixels: &mut [u32],
+) -> Taken
+    requires { ⌜ length (now pixels) * widthBytes w ≤ length (now image) ⌝ }
+    ensures { λ r. ⌜ Whole (widthBytes w) (c .applies) (c .baseline) (partsOf (widthBytes w) (entryBytes (c .width)) (length (now (pixels .entry))) (now (image .entry)) (now (under .entry)) (now (two .entry)) (now (four .entry))) (now (pixels .exit)) r ⌝ }
+{
+    let Width::One = w else {
+        return blocks(image, w, two, four, under, c, pixels);
+    };
+    if !expects_few(c, pixels.len()) {
+        return blocks(image, w, two, four, under, c, pixels);
+    }
+    few_blocks(image, two, four, under, c, pixels)
+}
+
 // Each step took exactly the entries that there are.
 fn used_up(t: Taken, two: usize, four: usize, under: usize) -> bool
     ensures { λ r. ⌜ r ≡ (eqb (t .two) two && eqb (t .four) four && eqb (t .under) under) ⌝ }
@@ -409,7 +603,7 @@ fn expand_parts(
 {
     let e = c.width;
     let each = layout::entry_bytes(e);
-    let t = blocks(image, w, two, four, under, c, pixels);
+    let t = all_blocks(image, w, two, four, under, c, pixels);
     if !used_up(t, two.len() / 2, four.len() / 4, under.len() / each) {
         table::clear(pixels);
         return Expanded::Refused(Refusal::CountMismatch);

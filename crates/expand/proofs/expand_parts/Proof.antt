@@ -27,21 +27,21 @@ partsAt c =
 spent : (c : tie.After-used-up) → exhausted (widthBytes (start c .args .w)) (start c .args .c .applies) (partsAt (start c)) ≡ c .used-up .result
 spent c =
     let a = start c .args in
-    exhausted-is (c .before .before .before .blocks2 .ensures) (length (a .two .now) / 2) (length (a .four .now) / 4) (length (a .under .now) / c .before .before .before .before .before .entry-bytes .result)
+    exhausted-is (c .before .before .before .all-blocks .ensures) (length (a .two .now) / 2) (length (a .four .now) / 4) (length (a .under .now) / c .before .before .before .before .before .entry-bytes .result)
     (length-entries _ _ _)
     (length-entries _ _ _)
     (length-entries _ _ _ ∙ ap (λ (e : ℕ). length (a .under .now) / e) (sym (c .before .before .before .before .before .entry-bytes .ensures)))
     (c .used-up .ensures)
 
 -- the blocks leave as many pixels as there were
-kept : (c : tie.After-blocks2) → length (c .blocks2 .last .1 .1 .1 .1 .1 .1 .0) ≡ length (c .before .before .before .before .before .before .before .before .args .pixels .now)
-kept c = whole-low (c .blocks2 .ensures) .long ∙ length-entries _ _ _
+kept : (c : tie.After-all-blocks) → length (c .all-blocks .last .1 .1 .1 .1 .1 .1 .0) ≡ length (c .before .before .before .before .before .before .before .before .args .pixels .now)
+kept c = whole-low (c .all-blocks .ensures) .long ∙ length-entries _ _ _
 
 entry-bytes-requires : tie.Need-entry-bytes-requires
 entry-bytes-requires c κs = search needs
 
-blocks-requires : tie.Need-blocks-requires
-blocks-requires c κs = search needs
+all-blocks-requires : tie.Need-all-blocks-requires
+all-blocks-requires c κs = search needs
 
 div-used-up : tie.Need-div-used-up
 div-used-up c =
@@ -71,7 +71,7 @@ same-length-2 c = search needs
 returns-2 : tie.Need-returns-2
 returns-2 c =
     let x = spent (c .before .before .before .before .before .before) ∙ not-false (c .before .before .before .before .before .before .used-up .result) (c .before .before .before .before .before .if1 .left) in
-    let y = sym (c .before .before .before .before .before .before .before .before .before .blocks2 .ensures .over-is) ∙ c .before .before .before .before .if2 .taken in
+    let y = sym (c .before .before .before .before .before .before .before .before .before .all-blocks .ensures .over-is) ∙ c .before .before .before .before .if2 .taken in
     (rw (x, y), rw (x, y) (c .before .before .clear2 .ensures ∙ ap zeros (kept (c .before .before .before .before .before .before .before .before .before))))
 
 same-length-3 : tie.Need-same-length-3
@@ -80,15 +80,15 @@ same-length-3 c = search needs
 returns-3 : tie.Need-returns-3
 returns-3 c =
     let x = spent (c .before .before) ∙ not-false (c .before .before .used-up .result) (c .before .if1 .left) in
-    let y = sym (c .before .before .before .before .before .blocks2 .ensures .over-is) ∙ c .if2 .left in
-    (rw (x, y), rw (x, y) (pixels-fit (c .before .before .before .before .before .blocks2 .ensures) (c .if2 .left)))
+    let y = sym (c .before .before .before .before .before .all-blocks .ensures .over-is) ∙ c .if2 .left in
+    (rw (x, y), rw (x, y) (pixels-fit (c .before .before .before .before .before .all-blocks .ensures) (c .if2 .left)))
 
 pub expand-parts-spec : {M : Type 1} → statement M
 expand-parts-spec =
     tie.close
     (tie.spec
     entry-bytes-requires
-    blocks-requires
+    all-blocks-requires
     div-used-up
     used-up-requires
     clear-requires

@@ -1,0 +1,26 @@
+use Rattle.expand.proofs.Steps.{no}
+use borrow.Author.Tests.{not-false}
+use native.Mathlib.Omega.{arith}
+use mathlib.Core.Path.{sym}
+use borrow.Author.Needs.{needs}
+use Rattle.expand.proofs.expects_few.Statement.{statement}
+use Rattle.expand.proofs.expects_few.Tie as tie
+
+-- src/lib.rt:537:9
+returns : tie.Need-returns
+returns c = λ e. absurd (no (sym e))
+
+-- src/lib.rt:540:9
+returns-2 : tie.Need-returns-2
+returns-2 c = λ e. absurd (no (sym e))
+
+-- src/lib.rt:542:5
+cast-result : tie.Need-cast-result
+cast-result c = search needs
+
+-- src/lib.rt:533:1
+returns-3 : tie.Need-returns-3
+returns-3 c = λ e. (not-false (c .before .before .before .before .before .args .c .applies) (c .before .before .before .if1 .left), omega arith)
+
+pub expects-few-spec : {M : Type 1} → statement M
+expects-few-spec = tie.close (tie.spec returns returns-2 cast-result returns-3)
