@@ -255,15 +255,6 @@ done-bytes {step} {base} image {eu} {e2} {e4} {px₀} {px} {ys} {t} {r} {p} e f 
     = entries-part 1 (length px₀) p (e - p) image (omega arith) ∙ rw one w in
     done-more e f h (omega (arith, f .room)) (rw (part-length p e px h (omega (arith, f .same)), q, ← z) at b)
 
--- the last block, of what is left
-pub done-last : {step : Bool} {base : ℕ} (image : List ℕ) {eu e2 e4 px₀ px ys : List ℕ} {t r : Taken} {p : ℕ} (e : ℕ)
-    → Done 1 step base (stored (entries 1 (length px₀) image) eu e2 e4) px₀ px t p → p ≤ e → e ≤ length px₀
-    → Stepped 1 step base (stored (entries 1 (length (take (e - p) (drop p px))) (take (length image - p) (drop p image))) eu e2 e4) ys t r
-    → Done 1 step base (stored (entries 1 (length px₀) image) eu e2 e4) px₀ (putMid p (e - p) px ys) r e
-done-last {step} {base} image {eu} {e2} {e4} {px₀} {px} {ys} {t} {r} {p} e f h k b =
-    let one : p * 1 ≡ p = omega arith in
-    done-next image {ys = ys} {t = t} {r = r} e f h k (rw one b)
-
 pub done-reach : {w : ℕ} {step : Bool} {base : ℕ} {s : Stored} {px₀ px : List ℕ} {t : Taken} {p : ℕ} → Done w step base s px₀ px t p → (p ≤ length px₀) × (length px ≡ length px₀)
 done-reach f = (omega (arith, f .upto, f .room), f .same)
 

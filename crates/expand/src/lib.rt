@@ -8,6 +8,7 @@ ghost use lib.Dec.{eqb, ltb};
 ghost use Rattle.lists.specs.Choose.{if_then_else_};
 ghost use Rattle.layout.specs.Form.{widthBytes, entryBytes};
 ghost use Rattle.layout.specs.Layout.{pixelCount, binaryEnd};
+ghost use Rattle.layout.specs.declared.Width.the-variants.{One};
 ghost use Rattle.table.specs.Table.{wholeEntries, entries};
 ghost use Rattle.expand.specs.Steps.{fillBy, replace, count, sumTooLarge, anyTooLarge};
 ghost use Rattle.expand.specs.Expand.{binaryAnswer, binaryPixels, firstPixels, partsWhole};
@@ -436,8 +437,8 @@ fn lift_few_bytes(image: &[u8], under: &[u8], c: StepC, pixels: &mut [u32], next
     }
 }
 
-// The three steps of a block of width 1 with a 255.
-fn step_marked(
+// The three steps of a block of width 1, whatever its bytes.
+fn step_any(
     image: &[u8],
     two: &[u8],
     four: &[u8],
@@ -449,16 +450,9 @@ fn step_marked(
     requires { ⌜ (length (now image) ≡ length (now pixels)) × (t .two + length (now pixels) < 2 ^ 64) × (t .four + length (now pixels) < 2 ^ 64) × (t .under + length (now pixels) < 2 ^ 64) ⌝ }
     ensures { λ r. ⌜ Stepped 1 true (c .baseline) (partsOf 1 (entryBytes (c .width)) (length (now (pixels .entry))) (now (image .entry)) (now (under .entry)) (now (two .entry)) (now (four .entry))) (now (pixels .exit)) t r ⌝ }
 {
-    let k = replace_block1(
-        image,
-        two,
-        four,
-        pixels,
-        Cursors {
-            two: t.two,
-            four: t.four,
-        },
-    );
+    table::load(image, Width::One, pixels);
+    let next_two = fill_marked(pixels, 255, two, Width::Two, t.two);
+    let next_four = fill_some(pixels, 65535, four, Width::Four, t.four);
     let u = lift_few(
         pixels,
         under,
@@ -469,8 +463,8 @@ fn step_marked(
         },
     );
     Taken {
-        two: k.two,
-        four: k.four,
+        two: next_two,
+        four: next_four,
         under: u.next,
         over: u.over,
     }
@@ -490,7 +484,7 @@ fn step_few(
     ensures { λ r. ⌜ Stepped 1 true (c .baseline) (partsOf 1 (entryBytes (c .width)) (length (now (pixels .entry))) (now (image .entry)) (now (under .entry)) (now (two .entry)) (now (four .entry))) (now (pixels .exit)) t r ⌝ }
 {
     if has_byte(image, 255) {
-        return step_marked(image, two, four, under, c, pixels, t);
+        return step_any(image, two, four, under, c, pixels, t);
     }
     let under = lift_few_bytes(image, under, c, pixels, t.under);
     Taken {
@@ -526,22 +520,16 @@ fn few_blocks(
         t = step_few(&image[p..e], two, four, under, c, &mut pixels[p..e], t);
         p = e;
     }
-    step_block(
-        &image[p..],
-        Width::One,
-        two,
-        four,
-        under,
-        c,
-        &mut pixels[p..n],
-        t,
-    )
+    step_any(&image[p..n], two, four, under, c, &mut pixels[p..n], t)
 }
 
-// Whether few zeros are expected of n pixels, by the count that is stated, and the baseline is of two bytes.
-fn expects_few(c: StepC, n: usize) -> bool
-    ensures { λ r. ⌜ (r ≡ true → (c .applies ≡ true) × (c .baseline ≤ 65535)) ⌝ }
+// Whether few zeros are expected of n pixels of width 1, by the count that is stated, and the baseline is of two bytes.
+fn expects_few(w: Width, c: StepC, n: usize) -> bool
+    ensures { λ r. ⌜ (r ≡ true → (w ≡ One) × (c .applies ≡ true) × (c .baseline ≤ 65535)) ⌝ }
 {
+    let Width::One = w else {
+        return false;
+    };
     if !c.applies {
         return false;
     }
@@ -564,13 +552,10 @@ fn all_blocks(
     requires { ⌜ length (now pixels) * widthBytes w ≤ length (now image) ⌝ }
     ensures { λ r. ⌜ Whole (widthBytes w) (c .applies) (c .baseline) (partsOf (widthBytes w) (entryBytes (c .width)) (length (now (pixels .entry))) (now (image .entry)) (now (under .entry)) (now (two .entry)) (now (four .entry))) (now (pixels .exit)) r ⌝ }
 {
-    let Width::One = w else {
-        return blocks(image, w, two, four, under, c, pixels);
-    };
-    if !expects_few(c, pixels.len()) {
-        return blocks(image, w, two, four, under, c, pixels);
+    if expects_few(w, c, pixels.len()) {
+        return few_blocks(image, two, four, under, c, pixels);
     }
-    few_blocks(image, two, four, under, c, pixels)
+    blocks(image, w, two, four, under, c, pixels)
 }
 
 // Each step took exactly the entries that there are.

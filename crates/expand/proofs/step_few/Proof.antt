@@ -9,8 +9,8 @@ has-byte-requires : tie.Need-has-byte-requires
 has-byte-requires c κs = search needs
 
 -- src/lib.rt:493:9
-step-marked-requires : tie.Need-step-marked-requires
-step-marked-requires c κs = search needs
+step-any-requires : tie.Need-step-any-requires
+step-any-requires c κs = search needs
 
 -- src/lib.rt:493:9
 same-length : tie.Need-same-length
@@ -37,7 +37,7 @@ step-few-spec =
     tie.close
     (tie.spec
     has-byte-requires
-    step-marked-requires
+    step-any-requires
     same-length
     returns
     lift-few-bytes-requires
