@@ -49,13 +49,13 @@ impl<'a> LineReader<'a> {
 
 // What stands next in a line, from the place at on. The parameters are plain, so the callers need no walk.
 pub fn field_at(line: &[u8], at: usize) -> Field
-    ensures { λ r. ⌜ r ≡ fieldFrom (now (line .entry)) at ⌝ }
+    ensures { λ f. ⌜ f ≡ fieldFrom (now (line .entry)) at ⌝ }
 {
     LineReader::new(line, at).next_field()
 }
 
 pub fn number_at(line: &[u8], at: usize) -> NumberField
-    ensures { λ r. ⌜ r ≡ numberField (now (line .entry)) at ⌝ }
+    ensures { λ n. ⌜ n ≡ numberField (now (line .entry)) at ⌝ }
 {
     LineReader::new(line, at).next_number()
 }
