@@ -83,7 +83,7 @@ fn number_in(id: LineId, header: &[u8]) -> ValueAnswer
         return ValueAnswer::Refused(Refusal::BadLine);
     };
     let text = &header[start..start + 72];
-    value_of(line_number(id, Cursor { at: 0 }.number(text)))
+    value_of(line_number(id, line_reader::number_at(text, 0)))
 }
 
 pub enum Format {
@@ -155,7 +155,7 @@ fn lead_refusal(s: LeadAnswer) -> Refusal
 fn lead_numbers(format: &[u8], version: &[u8], blocks: &[u8]) -> LeadAnswer
     ensures { λ r. ⌜ r ≡ leadNumbers (now (format .entry)) (now (version .entry)) (now (blocks .entry)) ⌝ }
 {
-    let first = line_number(LineId::Format, Cursor { at: 0 }.number(format));
+    let first = line_number(LineId::Format, line_reader::number_at(format, 0));
     let NumberStep::Read(f, _) = first else {
         return LeadAnswer::Refused(step_refusal(first));
     };
@@ -169,7 +169,7 @@ fn lead_numbers(format: &[u8], version: &[u8], blocks: &[u8]) -> LeadAnswer
     if !is_version(v) {
         return LeadAnswer::Refused(Refusal::UnknownVersion);
     }
-    let third = line_number(LineId::Hdrblks, Cursor { at: 0 }.number(blocks));
+    let third = line_number(LineId::Hdrblks, line_reader::number_at(blocks, 0));
     let NumberStep::Read(b, _) = third else {
         return LeadAnswer::Refused(step_refusal(third));
     };
@@ -237,7 +237,7 @@ fn counts_refusal(s: CountsAnswer) -> Refusal
 fn counts_86(text: &[u8]) -> CountsAnswer
     ensures { λ r. ⌜ r ≡ counts86 (now (text .entry)) ⌝ }
 {
-    let first = line_number(LineId::Noverfl, Cursor { at: 0 }.number(text));
+    let first = line_number(LineId::Noverfl, line_reader::number_at(text, 0));
     match first {
         NumberStep::Read(n, _) => CountsAnswer::Read(Counts::Format86 { entries: n }),
         NumberStep::Refused(r) => CountsAnswer::Refused(r),
@@ -248,11 +248,11 @@ fn counts_86(text: &[u8]) -> CountsAnswer
 fn binary_counts(text: &[u8], after: Cursor, underflows: UnderflowCount) -> CountsAnswer
     ensures { λ r. ⌜ r ≡ binaryCounts (now (text .entry)) (after .at) underflows ⌝ }
 {
-    let first = line_number(LineId::Noverfl, after.number(text));
+    let first = line_number(LineId::Noverfl, line_reader::number_at(text, after.at));
     let NumberStep::Read(two, next) = first else {
         return CountsAnswer::Refused(step_refusal(first));
     };
-    let second = line_number(LineId::Noverfl, next.number(text));
+    let second = line_number(LineId::Noverfl, line_reader::number_at(text, next.at));
     let NumberStep::Read(four, _) = second else {
         return CountsAnswer::Refused(step_refusal(second));
     };
@@ -312,7 +312,7 @@ fn widths_refusal(s: WidthsAnswer) -> Refusal
 fn widths_86(text: &[u8]) -> WidthsAnswer
     ensures { λ r. ⌜ r ≡ widths86 (now (text .entry)) ⌝ }
 {
-    let first = line_number(LineId::Npixelb, Cursor { at: 0 }.number(text));
+    let first = line_number(LineId::Npixelb, line_reader::number_at(text, 0));
     match first {
         NumberStep::Read(n, _) => WidthsAnswer::Read(Widths {
             pixel: n,
@@ -325,11 +325,11 @@ fn widths_86(text: &[u8]) -> WidthsAnswer
 fn widths_100(text: &[u8]) -> WidthsAnswer
     ensures { λ r. ⌜ r ≡ widths100 (now (text .entry)) ⌝ }
 {
-    let first = line_number(LineId::Npixelb, Cursor { at: 0 }.number(text));
+    let first = line_number(LineId::Npixelb, line_reader::number_at(text, 0));
     let NumberStep::Read(pixel, next) = first else {
         return WidthsAnswer::Refused(step_refusal(first));
     };
-    let second = line_number(LineId::Npixelb, next.number(text));
+    let second = line_number(LineId::Npixelb, line_reader::number_at(text, next.at));
     let NumberStep::Read(underflow, _) = second else {
         return WidthsAnswer::Refused(step_refusal(second));
     };
@@ -359,7 +359,7 @@ fn baseline_text(text: &[u8]) -> ValueAnswer
         start: _,
         end: _,
         next: second,
-    } = (Cursor { at: 0 }).field(text)
+    } = line_reader::field_at(text, 0)
     else {
         return ValueAnswer::Refused(Refusal::BadField { line });
     };
@@ -367,11 +367,11 @@ fn baseline_text(text: &[u8]) -> ValueAnswer
         start: _,
         end: _,
         next: third,
-    } = second.field(text)
+    } = line_reader::field_at(text, second.at)
     else {
         return ValueAnswer::Refused(Refusal::BadField { line });
     };
-    value_of(line_number(LineId::Nexp, third.number(text)))
+    value_of(line_number(LineId::Nexp, line_reader::number_at(text, third.at)))
 }
 
 // The baseline that NEXP gives, whatever its range.

@@ -6,8 +6,8 @@ use Rattle.header.proofs.baseline_text.Tie as tie
 position-of-requires : tie.Need-position-of-requires
 position-of-requires c κs = search needs
 
-field-requires : tie.Need-field-requires
-field-requires c κs = search needs
+field-at-requires : tie.Need-field-at-requires
+field-at-requires c κs = search needs
 
 enum-known-second : tie.Need-enum-known-second
 enum-known-second c = search needs
@@ -17,10 +17,10 @@ enum-told c = search needs
 
 returns : tie.Need-returns
 unfolding baselineText
-returns c = rw (← c .before .before .field .ensures, c .enum-told .given .1, c .before .before .before .position-of .ensures)
+returns c = rw (← c .before .before .field-at .ensures, c .enum-told .given .1, c .before .before .before .position-of .ensures)
 
-field-requires-2 : tie.Need-field-requires-2
-field-requires-2 c κs = search needs
+field-at-requires-2 : tie.Need-field-at-requires-2
+field-at-requires-2 c κs = search needs
 
 enum-known-third : tie.Need-enum-known-third
 enum-known-third c = search needs
@@ -30,10 +30,10 @@ enum-told-2 c = search needs
 
 returns-2 : tie.Need-returns-2
 unfolding baselineText
-returns-2 c = rw (← c .before .before .before .before .before .before .field .ensures, c .before .before .before .before .second .given .1, ← c .before .before .field2 .ensures, c .enum-told2 .given .1, c .before .before .before .before .before .before .before .position-of .ensures)
+returns-2 c = rw (← c .before .before .before .before .before .before .field-at .ensures, c .before .before .before .before .second .given .1, ← c .before .before .field-at2 .ensures, c .enum-told2 .given .1, c .before .before .before .before .before .before .before .position-of .ensures)
 
-number-requires : tie.Need-number-requires
-number-requires c κs = search needs
+number-at-requires : tie.Need-number-at-requires
+number-at-requires c κs = search needs
 
 line-number-requires : tie.Need-line-number-requires
 line-number-requires c κs = search needs
@@ -43,22 +43,22 @@ value-of-requires c κs = search needs
 
 returns-3 : tie.Need-returns-3
 unfolding baselineText
-returns-3 c = rw (← c .before .before .before .before .before .before .before .before .before .before .field .ensures, c .before .before .before .before .before .before .before .before .second .given .1, ← c .before .before .before .before .before .before .field2 .ensures, c .before .before .before .before .third .given .1, ← c .before .before .number .ensures, ← c .before .line-number .ensures) (c .value-of .ensures)
+returns-3 c = rw (← c .before .before .before .before .before .before .before .before .before .before .field-at .ensures, c .before .before .before .before .before .before .before .before .second .given .1, ← c .before .before .before .before .before .before .field-at2 .ensures, c .before .before .before .before .third .given .1, ← c .before .before .number-at .ensures, ← c .before .line-number .ensures) (c .value-of .ensures)
 
 pub baseline-text-spec : {M : Type 1} → statement M
 baseline-text-spec =
     tie.close
     (tie.spec
     position-of-requires
-    field-requires
+    field-at-requires
     enum-known-second
     enum-told
     returns
-    field-requires-2
+    field-at-requires-2
     enum-known-third
     enum-told-2
     returns-2
-    number-requires
+    number-at-requires
     line-number-requires
     value-of-requires
     returns-3)

@@ -11,8 +11,8 @@ use borrow.Author.Needs.{needs}
 use Rattle.header.proofs.lead_numbers.Statement.{statement}
 use Rattle.header.proofs.lead_numbers.Tie as tie
 
-number-requires : tie.Need-number-requires
-number-requires c κs = search needs
+number-at-requires : tie.Need-number-at-requires
+number-at-requires c κs = search needs
 
 line-number-requires : tie.Need-line-number-requires
 line-number-requires c κs = search needs
@@ -28,7 +28,7 @@ step-refusal-requires c κs = search needs
 
 returns : tie.Need-returns
 unfolding leadNumbers
-returns c = rw (← c .before .before .before .before .number .ensures, ← c .before .before .before .line-number .ensures, c .before .enum-told .given .1) (ap Refused (c .step-refusal .ensures ∙ ap stepRefusal (c .before .enum-told .given .1)))
+returns c = rw (← c .before .before .before .before .number-at .ensures, ← c .before .before .before .line-number .ensures, c .before .enum-told .given .1) (ap Refused (c .step-refusal .ensures ∙ ap stepRefusal (c .before .enum-told .given .1)))
 
 format-from-requires : tie.Need-format-from-requires
 format-from-requires c κs = search needs
@@ -41,7 +41,7 @@ enum-told-2 c = search needs
 
 returns-2 : tie.Need-returns-2
 unfolding leadNumbers
-returns-2 c = rw (← c .before .before .before .before .before .before .before .number .ensures, ← c .before .before .before .before .before .before .line-number .ensures, c .before .before .before .before .first .given .1, ← c .before .before .format-from .ensures, c .enum-told2 .given .1)
+returns-2 c = rw (← c .before .before .before .before .before .before .before .number-at .ensures, ← c .before .before .before .before .before .before .line-number .ensures, c .before .before .before .before .first .given .1, ← c .before .before .format-from .ensures, c .enum-told2 .given .1)
 
 version-requires : tie.Need-version-requires
 version-requires c κs = search needs
@@ -60,17 +60,17 @@ step-refusal-requires-2 c κs = search needs
 
 returns-3 : tie.Need-returns-3
 unfolding leadNumbers
-returns-3 c = rw (← c .before .before .before .before .before .before .before .before .before .before .before .before .before .number .ensures, ← c .before .before .before .before .before .before .before .before .before .before .before .before .line-number .ensures, c .before .before .before .before .before .before .before .before .before .before .first .given .1, ← c .before .before .before .before .before .before .before .before .format-from .ensures, c .before .before .before .before .before .before .listed .given .1, ← c .before .before .before .before .version .ensures, ← c .before .before .before .line-number2 .ensures, c .before .enum-told3 .given .1) (ap Refused (c .step-refusal2 .ensures ∙ ap stepRefusal (c .before .enum-told3 .given .1)))
+returns-3 c = rw (← c .before .before .before .before .before .before .before .before .before .before .before .before .before .number-at .ensures, ← c .before .before .before .before .before .before .before .before .before .before .before .before .line-number .ensures, c .before .before .before .before .before .before .before .before .before .before .first .given .1, ← c .before .before .before .before .before .before .before .before .format-from .ensures, c .before .before .before .before .before .before .listed .given .1, ← c .before .before .before .before .version .ensures, ← c .before .before .before .line-number2 .ensures, c .before .enum-told3 .given .1) (ap Refused (c .step-refusal2 .ensures ∙ ap stepRefusal (c .before .enum-told3 .given .1)))
 
 is-version-requires : tie.Need-is-version-requires
 is-version-requires c κs = search needs
 
 returns-4 : tie.Need-returns-4
 unfolding leadNumbers
-returns-4 c = rw (← c .before .before .before .before .before .before .before .before .before .before .before .before .before .before .before .number .ensures, ← c .before .before .before .before .before .before .before .before .before .before .before .before .before .before .line-number .ensures, c .before .before .before .before .before .before .before .before .before .before .before .before .first .given .1, ← c .before .before .before .before .before .before .before .before .before .before .format-from .ensures, c .before .before .before .before .before .before .before .before .listed .given .1, ← c .before .before .before .before .before .before .version .ensures, ← c .before .before .before .before .before .line-number2 .ensures, c .before .before .before .second .given .1, ← c .before .is-version .ensures, c .if1 .taken)
+returns-4 c = rw (← c .before .before .before .before .before .before .before .before .before .before .before .before .before .before .before .number-at .ensures, ← c .before .before .before .before .before .before .before .before .before .before .before .before .before .before .line-number .ensures, c .before .before .before .before .before .before .before .before .before .before .before .before .first .given .1, ← c .before .before .before .before .before .before .before .before .before .before .format-from .ensures, c .before .before .before .before .before .before .before .before .listed .given .1, ← c .before .before .before .before .before .before .version .ensures, ← c .before .before .before .before .before .line-number2 .ensures, c .before .before .before .second .given .1, ← c .before .is-version .ensures, c .if1 .taken)
 
-number-requires-2 : tie.Need-number-requires-2
-number-requires-2 c κs = search needs
+number-at-requires-2 : tie.Need-number-at-requires-2
+number-at-requires-2 c κs = search needs
 
 line-number-requires-3 : tie.Need-line-number-requires-3
 line-number-requires-3 c κs = search needs
@@ -86,7 +86,7 @@ step-refusal-requires-3 c κs = search needs
 
 returns-5 : tie.Need-returns-5
 unfolding leadNumbers
-returns-5 c = rw (← c .before .before .before .before .before .before .before .before .before .before .before .before .before .before .before .before .before .before .before .before .number .ensures, ← c .before .before .before .before .before .before .before .before .before .before .before .before .before .before .before .before .before .before .before .line-number .ensures, c .before .before .before .before .before .before .before .before .before .before .before .before .before .before .before .before .before .first .given .1, ← c .before .before .before .before .before .before .before .before .before .before .before .before .before .before .before .format-from .ensures, c .before .before .before .before .before .before .before .before .before .before .before .before .before .listed .given .1, ← c .before .before .before .before .before .before .before .before .before .before .before .version .ensures, ← c .before .before .before .before .before .before .before .before .before .before .line-number2 .ensures, c .before .before .before .before .before .before .before .before .second .given .1, ← c .before .before .before .before .before .before .is-version .ensures, c .before .before .before .before .before .if1 .left, ← c .before .before .before .before .number2 .ensures, ← c .before .before .before .line-number3 .ensures, c .before .enum-told4 .given .1) (ap Refused (c .step-refusal3 .ensures ∙ ap stepRefusal (c .before .enum-told4 .given .1)))
+returns-5 c = rw (← c .before .before .before .before .before .before .before .before .before .before .before .before .before .before .before .before .before .before .before .before .number-at .ensures, ← c .before .before .before .before .before .before .before .before .before .before .before .before .before .before .before .before .before .before .before .line-number .ensures, c .before .before .before .before .before .before .before .before .before .before .before .before .before .before .before .before .before .first .given .1, ← c .before .before .before .before .before .before .before .before .before .before .before .before .before .before .before .format-from .ensures, c .before .before .before .before .before .before .before .before .before .before .before .before .before .listed .given .1, ← c .before .before .before .before .before .before .before .before .before .before .before .version .ensures, ← c .before .before .before .before .before .before .before .before .before .before .line-number2 .ensures, c .before .before .before .before .before .before .before .before .second .given .1, ← c .before .before .before .before .before .before .is-version .ensures, c .before .before .before .before .before .if1 .left, ← c .before .before .before .before .number-at2 .ensures, ← c .before .before .before .line-number3 .ensures, c .before .enum-told4 .given .1) (ap Refused (c .step-refusal3 .ensures ∙ ap stepRefusal (c .before .enum-told4 .given .1)))
 
 is-blocks-requires : tie.Need-is-blocks-requires
 is-blocks-requires c κs = search needs
@@ -96,17 +96,17 @@ mul-t24 c = let n = c .before .before .before .third .given .0 .0 in let h : n �
 
 returns-6 : tie.Need-returns-6
 unfolding leadNumbers
-returns-6 c = rw (← c .before .before .before .before .before .before .before .before .before .before .before .before .before .before .before .before .before .before .before .before .before .before .number .ensures, ← c .before .before .before .before .before .before .before .before .before .before .before .before .before .before .before .before .before .before .before .before .before .line-number .ensures, c .before .before .before .before .before .before .before .before .before .before .before .before .before .before .before .before .before .before .before .first .given .1, ← c .before .before .before .before .before .before .before .before .before .before .before .before .before .before .before .before .before .format-from .ensures, c .before .before .before .before .before .before .before .before .before .before .before .before .before .before .before .listed .given .1, ← c .before .before .before .before .before .before .before .before .before .before .before .before .before .version .ensures, ← c .before .before .before .before .before .before .before .before .before .before .before .before .line-number2 .ensures, c .before .before .before .before .before .before .before .before .before .before .second .given .1, ← c .before .before .before .before .before .before .before .before .is-version .ensures, c .before .before .before .before .before .before .before .if1 .left, ← c .before .before .before .before .before .before .number2 .ensures, ← c .before .before .before .before .before .line-number3 .ensures, c .before .before .before .third .given .1, ← c .before .is-blocks .ensures, c .if2 .taken)
+returns-6 c = rw (← c .before .before .before .before .before .before .before .before .before .before .before .before .before .before .before .before .before .before .before .before .before .before .number-at .ensures, ← c .before .before .before .before .before .before .before .before .before .before .before .before .before .before .before .before .before .before .before .before .before .line-number .ensures, c .before .before .before .before .before .before .before .before .before .before .before .before .before .before .before .before .before .before .before .first .given .1, ← c .before .before .before .before .before .before .before .before .before .before .before .before .before .before .before .before .before .format-from .ensures, c .before .before .before .before .before .before .before .before .before .before .before .before .before .before .before .listed .given .1, ← c .before .before .before .before .before .before .before .before .before .before .before .before .before .version .ensures, ← c .before .before .before .before .before .before .before .before .before .before .before .before .line-number2 .ensures, c .before .before .before .before .before .before .before .before .before .before .second .given .1, ← c .before .before .before .before .before .before .before .before .is-version .ensures, c .before .before .before .before .before .before .before .if1 .left, ← c .before .before .before .before .before .before .number-at2 .ensures, ← c .before .before .before .before .before .line-number3 .ensures, c .before .before .before .third .given .1, ← c .before .is-blocks .ensures, c .if2 .taken)
 
 returns-7 : tie.Need-returns-7
 unfolding leadNumbers
-returns-7 c = rw (← c .before .before .before .before .before .before .before .before .before .before .before .before .before .before .before .before .before .before .before .before .before .before .number .ensures, ← c .before .before .before .before .before .before .before .before .before .before .before .before .before .before .before .before .before .before .before .before .before .line-number .ensures, c .before .before .before .before .before .before .before .before .before .before .before .before .before .before .before .before .before .before .before .first .given .1, ← c .before .before .before .before .before .before .before .before .before .before .before .before .before .before .before .before .before .format-from .ensures, c .before .before .before .before .before .before .before .before .before .before .before .before .before .before .before .listed .given .1, ← c .before .before .before .before .before .before .before .before .before .before .before .before .before .version .ensures, ← c .before .before .before .before .before .before .before .before .before .before .before .before .line-number2 .ensures, c .before .before .before .before .before .before .before .before .before .before .second .given .1, ← c .before .before .before .before .before .before .before .before .is-version .ensures, c .before .before .before .before .before .before .before .if1 .left, ← c .before .before .before .before .before .before .number2 .ensures, ← c .before .before .before .before .before .line-number3 .ensures, c .before .before .before .third .given .1, ← c .before .is-blocks .ensures, c .if2 .left)
+returns-7 c = rw (← c .before .before .before .before .before .before .before .before .before .before .before .before .before .before .before .before .before .before .before .before .before .before .number-at .ensures, ← c .before .before .before .before .before .before .before .before .before .before .before .before .before .before .before .before .before .before .before .before .before .line-number .ensures, c .before .before .before .before .before .before .before .before .before .before .before .before .before .before .before .before .before .before .before .first .given .1, ← c .before .before .before .before .before .before .before .before .before .before .before .before .before .before .before .before .before .format-from .ensures, c .before .before .before .before .before .before .before .before .before .before .before .before .before .before .before .listed .given .1, ← c .before .before .before .before .before .before .before .before .before .before .before .before .before .version .ensures, ← c .before .before .before .before .before .before .before .before .before .before .before .before .line-number2 .ensures, c .before .before .before .before .before .before .before .before .before .before .second .given .1, ← c .before .before .before .before .before .before .before .before .is-version .ensures, c .before .before .before .before .before .before .before .if1 .left, ← c .before .before .before .before .before .before .number-at2 .ensures, ← c .before .before .before .before .before .line-number3 .ensures, c .before .before .before .third .given .1, ← c .before .is-blocks .ensures, c .if2 .left)
 
 pub lead-numbers-spec : {M : Type 1} → statement M
 lead-numbers-spec =
     tie.close
     (tie.spec
-    number-requires
+    number-at-requires
     line-number-requires
     enum-known-first
     enum-told
@@ -124,7 +124,7 @@ lead-numbers-spec =
     returns-3
     is-version-requires
     returns-4
-    number-requires-2
+    number-at-requires-2
     line-number-requires-3
     enum-known-third
     enum-told-4

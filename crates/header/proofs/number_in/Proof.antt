@@ -32,8 +32,8 @@ part-text-start c = search needs
 part-text-end : tie.Need-part-text-end
 part-text-end c = let w = place-within _ _ _ (sym (c .before .start .given .1) ∙ c .before .before .before .place-of .ensures) in omega arith
 
-number-requires : tie.Need-number-requires
-number-requires c κs = search needs
+number-at-requires : tie.Need-number-at-requires
+number-at-requires c κs = search needs
 
 line-number-requires : tie.Need-line-number-requires
 line-number-requires c κs = search needs
@@ -43,7 +43,7 @@ value-of-requires c κs = search needs
 
 returns-2 : tie.Need-returns-2
 unfolding numberIn
-returns-2 c = rw (← c .before .before .before .before .before .before .before .place-of .ensures, c .before .before .before .before .before .start .given .1) (c .value-of .ensures ∙ ap valueOf (c .before .line-number .ensures ∙ ap (lineNumber _) (rw add-sub-cancel-left at (c .before .before .number .ensures))))
+returns-2 c = rw (← c .before .before .before .before .before .before .before .place-of .ensures, c .before .before .before .before .before .start .given .1) (c .value-of .ensures ∙ ap valueOf (c .before .line-number .ensures ∙ ap (lineNumber _) (rw add-sub-cancel-left at (c .before .before .number-at .ensures))))
 
 pub number-in-spec : {M : Type 1} → statement M
 number-in-spec =
@@ -57,7 +57,7 @@ number-in-spec =
     sub-text
     part-text-start
     part-text-end
-    number-requires
+    number-at-requires
     line-number-requires
     value-of-requires
     returns-2)
