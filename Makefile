@@ -1,10 +1,16 @@
 # Daily work. `make test` is the gate; the rest eases the way there.
-.PHONY: test toolchain check must-fail fmt dev skeletons paths staticlib bench second-reader compare soak clean
+.PHONY: test toolchain check must-fail fmt dev skeletons paths staticlib bench clean
+.PHONY: deps-rust deps-peers second-reader compare compare-short soak
 
-# The whole gate: every crate proved from nothing, every must-fail edit refused, every program's output compared.
+# What the gate runs after the proofs, in this order: targets of this file, one more line each.
+AFTER_PROOFS += staticlib
+AFTER_PROOFS += compare-short
+
+# The whole gate: every crate proved from nothing, every must-fail edit refused, every program's output compared; then the rest
+# on what was proved. The last line is the prover's verdict.
 test: toolchain
 	rt fmt --check
-	rt ci
+	@tools/gate $(AFTER_PROOFS)
 
 # Says so where another toolchain than the pinned one is found. The proofs are checked by what is found.
 toolchain:
@@ -42,17 +48,28 @@ staticlib:
 bench:
 	$(MAKE) --no-print-directory -C bench run
 
+# Debian's packages for what follows, installed where they are missing: cargo from elsewhere will do.
+deps-rust:
+	@command -v cargo > /dev/null || tools/deps cargo-web rustc-web
+
+deps-peers: deps-rust
+	@tools/deps python3-fabio python3-numpy python3-matplotlib
+
 # The comparison with the second reader (tests/second_reader), over the static library.
 SECOND_READER := target/second_reader/release/second_reader
 COMPARE = $(SECOND_READER) compare $(if $(SEED),--seed $(SEED)) --case target/difference.case
 MINUTES ?= 10
 
-second-reader: staticlib
-	cd tests/second_reader && cargo build --release --offline --target-dir ../../target/second_reader
+second-reader: deps-rust staticlib
+	cd tests/second_reader && cargo build --quiet --release --offline --target-dir ../../target/second_reader
 
 # make compare SEED=7: 20 seconds, with a new seed where none is given.
 compare: second-reader
 	$(COMPARE) --seconds 20
+
+# The gate's run.
+compare-short: second-reader
+	$(COMPARE) --seconds 15
 
 # make soak MINUTES=10: the same for longer.
 soak: second-reader

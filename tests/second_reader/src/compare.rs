@@ -13,7 +13,7 @@ pub struct Outcome {
     answers: Vec<Vec<u64>>,
     /// A digest of the held buffer and the ledger after each call of a list.
     digests: Vec<u64>,
-    after: Case,
+    pub after: Case,
     respected: bool,
 }
 
@@ -26,6 +26,16 @@ impl Outcome {
             after: case.clone(),
             respected: true,
         }
+    }
+
+    /// The first call's answer.
+    pub fn answer(&self) -> &[u64] {
+        &self.answers[0]
+    }
+
+    pub fn words(&self) -> String {
+        let words: Vec<String> = self.answer().iter().map(u64::to_string).collect();
+        words.join(" ")
     }
 
     fn note(&mut self, call: Call, answer: Vec<u64>) -> u64 {
