@@ -41,8 +41,11 @@ skeletons:
 paths:
 	tools/paths $(NAME) $(FN)
 
-# The static library that C and Rust programs link.
-staticlib:
+# The static library that C and Rust programs link. rt proves the crate of the C interface again for it, so it is made only where it is stale.
+STATICLIB := target/staticlib/libquayrudder.a
+staticlib: $(STATICLIB)
+
+$(STATICLIB): crates.txt $(shell find crates -name '*.rt' -o -name '*.antt')
 	rt staticlib quayrudder
 
 bench:

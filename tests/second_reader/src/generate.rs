@@ -495,7 +495,7 @@ pub struct Made {
 }
 
 /// One case in so many is large, and one large one in LARGEST is as large as its format allows.
-const LARGE: u64 = 40_000;
+const LARGE: u64 = 16_000;
 const LARGEST: u64 = 5;
 
 /// The size of the case with this number, the first being 0. The first large one comes early, so that a short run has it.
