@@ -76,8 +76,8 @@ def library_write(path, header, pixels, width, underflow):
 def fabio_read(path):
     """FabIO's pixels, or the error that it raises."""
     with open(path, "rb") as file:
-        form = file.read(80)[8:].split()[0]
-    image = Bruker100Image() if form == b"100" else BrukerImage()
+        form = file.read(80)[8:].split()[:1]
+    image = Bruker100Image() if form == [b"100"] else BrukerImage()
     try:
         return image.read(str(path)).data
     except Exception as error:

@@ -46,7 +46,7 @@ def row(path, scratch):
 
 def main():
     logging.disable(logging.CRITICAL)
-    files = sorted(path for path in pathlib.Path(sys.argv[1]).rglob("*") if path.is_file() and not path.name.startswith("."))
+    files = sorted(path for path in pathlib.Path(sys.argv[1]).rglob("*") if path.is_file() and path.name != "README.md")
     print("| file | format | rows | columns | library | second reader | FabIO | agree |\n|---|---|---|---|---|---|---|---|")
     same = True
     with tempfile.TemporaryDirectory() as scratch:

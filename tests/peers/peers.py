@@ -10,7 +10,7 @@ import numpy
 import bruker
 from departures import DEPARTURES
 
-SHAPES = [(1, 1), (1, 7), (3, 5), (64, 65), (512, 512), (1024, 1024)]
+SHAPES = [(1, 1), (1, 7), (3, 5), (64, 65), (512, 512), (2048, 2048)]
 BASELINE = 32
 
 
@@ -43,14 +43,23 @@ class Report:
 
     def note(self, name, *differences):
         found = [text for text in differences if text]
-        self.agreed.setdefault(name, [0, 0])[bool(found)] += 1
+        self.agreed.setdefault(name, [0, 0])[bool(found)] += len(differences)
         for text in found:
             self.failed += 1
             print(f"DIFFERENT: {name}: {text}")
 
 
-def both_read(report, name, path, expected):
-    """The library, the second reader and FabIO read a file."""
+def field(path, line, index=0):
+    """A number of a header line."""
+    with open(path, "rb") as file:
+        file.seek(80 * line + 8)
+        return int(file.read(72).split()[index])
+
+
+def both_read(report, name, path, expected, width=1, underflow=None):
+    """The library, the second reader and FabIO read a file that has this form."""
+    found = field(path, 39), None if underflow is None else field(path, 39, 1)
+    report.note(name, "" if found == (width, underflow) else f"form {found}")
     ours = bruker.library_read(path)
     pixels = ours.pixels if ours.refusal == 0 else f"refusal {ours.refusal}"
     second = "" if ours.same else f"the second reader: {ours.text}"
@@ -64,33 +73,41 @@ def fabio_86(report, folder, random):
             pixels = counts(random, shape, most, 0)
             if width > 1 and pixels.size < 8192:
                 continue
-            if width > 1:
-                pixels.ravel()[:5000] = 300 if width == 2 else 70000
+            overflows_for(pixels.ravel(), width)
             bruker.fabio_write(path, pixels.astype(numpy.uint32), 86)
-            both_read(report, f"FabIO writes FORMAT 86, width {width}", path, pixels)
+            both_read(report, f"FabIO writes FORMAT 86, width {width}", path, pixels, width)
             turned_table(path)
-            both_read(report, f"the same, entries turned round, spaces for zeros, width {width}", path, pixels)
+            both_read(report, f"the same, entries turned round, spaces for zeros, width {width}", path, pixels, width)
+
+
+def overflows_for(flat, width):
+    """FabIO stores one byte for each pixel where fewer than 4096 overflow, two where fewer than 4096 overflow those, else four."""
+    if width == 1:
+        flat[numpy.flatnonzero(flat >= 255)[4000:]] = 254
+    else:
+        flat[:5000] = 300 if width == 2 else 70000
 
 
 def turned_table(path):
     """The entries of a FORMAT 86 frame in the opposite order, their leading zeros made spaces."""
     data = path.read_bytes()
-    field = lambda line: int(data[80 * line + 8:80 * line + 80].split()[0])
-    start = 512 * field(2) + field(39) * field(40) * field(41)
-    entries = [data[start + 16 * i:start + 16 * i + 16] for i in range(field(20))]
+    blocks, count, width, rows, columns = (field(path, line) for line in (2, 20, 39, 40, 41))
+    start = 512 * blocks + width * rows * columns
+    entries = [data[start + 16 * i:start + 16 * i + 16] for i in range(count)]
     turned = b"".join(b"%9d%7d" % (int(e[:9]), int(e[9:])) for e in reversed(entries))
     path.write_bytes(data[:start] + turned + data[start + len(turned):])
 
 
 def fabio_100(report, folder, random):
     path = folder / "frame"
-    for name, baseline in (("none", None), ("underflows 1", BASELINE), ("underflows 2", 300)):
+    # With kind none FabIO's header still has an underflow width of 1.
+    for name, baseline, underflow in (("none", None, 1), ("underflows 1", BASELINE, 1), ("underflows 2", 300, 2)):
         for shape in SHAPES:
             pixels = counts(random, shape, 2**31 - 1 - 300, baseline or 0)
             if baseline is not None:
                 pixels.ravel()[0] = baseline
             bruker.fabio_write(path, pixels.astype(numpy.int32), 100, baseline)
-            both_read(report, f"FabIO writes FORMAT 100, width 1, {name}", path, pixels)
+            both_read(report, f"FabIO writes FORMAT 100, width 1, {name}", path, pixels, 1, underflow)
 
 
 def library_100(report, folder, random):
@@ -104,7 +121,7 @@ def library_100(report, folder, random):
                 written = bruker.library_write(path, header, pixels, width, underflow)
                 name = f"the library writes FORMAT 100, width {width}, underflows {underflow}"
                 report.note(name, f"refusal {written.refusal}" if written.refusal else "", "" if written.same else written.text)
-                both_read(report, name, path, pixels)
+                both_read(report, name, path, pixels, width, underflow)
 
 
 def departures(report, folder):
@@ -117,6 +134,7 @@ def departures(report, folder):
 
 def main():
     logging.disable(logging.CRITICAL)
+    numpy.seterr(divide="ignore")
     seed = int(sys.argv[1]) if len(sys.argv) > 1 else 2026
     print(f"seed {seed}")
     random = numpy.random.default_rng(seed)
@@ -128,7 +146,7 @@ def main():
         departures(report, folder)
     print()
     for name, (agreed, failed) in report.agreed.items():
-        print(f"{name}: {agreed} agree" + (f", {failed} DIFFER" if failed else ""))
+        print(f"{name}: {agreed} comparisons agree" + (f", {failed} DIFFER" if failed else ""))
     return 1 if report.failed else 0
 
 
