@@ -1,8 +1,6 @@
 // Reads each frame that its arguments name, all written by FabIO, and prints the pixels. The stored output is FabIO's own reading.
 use libc::STDOUT_FILENO;
 use reader::ReadAnswer;
-ghost use mathlib.Core.Path.{_≡_};
-ghost use Prim.Native.Nat.{_≤_};
 
 fn word(text: &[u8]) {
     io::write_all(STDOUT_FILENO, text);
@@ -25,12 +23,15 @@ fn show_pixels(pixels: &[u32]) {
     }
 }
 
-// Rows times columns, as far as the array goes.
-fn places(rows: u32, columns: u32) -> usize
-    ensures { λ r. ⌜ r ≤ 4224 ⌝ }
-{
-    let n = (rows as usize) * (columns as usize);
-    if n <= 4224 { n } else { 4224 }
+fn pixel_count(rows: u32, columns: u32) -> usize {
+    (rows as usize) * (columns as usize)
+}
+
+// The frame's pixels, at the front of the array.
+fn show_first(pixels: &[u32], n: usize) {
+    if n <= pixels.len() {
+        show_pixels(&pixels[..n]);
+    }
 }
 
 fn show_frame(frame: &[u8]) {
@@ -42,8 +43,7 @@ fn show_frame(frame: &[u8]) {
             number(b" x ", columns as u64);
             number(b", end ", end);
             word(b":");
-            let n = places(rows, columns);
-            show_pixels(&pixels[..n]);
+            show_first(&pixels, pixel_count(rows, columns));
         }
         ReadAnswer::Refused(r) => {
             number(b": refused ", refusal::number_of(r) as u64);
