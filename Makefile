@@ -1,6 +1,6 @@
 # Daily work. `make test` is the gate; the rest eases the way there.
 .PHONY: test toolchain check must-fail fmt dev skeletons paths staticlib bench clean
-.PHONY: deps-rust deps-peers second-reader compare compare-short soak peers compare-frames
+.PHONY: deps-rust deps-peers second-reader compare compare-short soak faults peers compare-frames
 
 # What the gate runs after the proofs, in this order: targets of this file, one more line each.
 AFTER_PROOFS += staticlib
@@ -77,6 +77,10 @@ compare-short: second-reader
 # make soak MINUTES=10: the same for longer.
 soak: second-reader
 	$(COMPARE) --seconds $$(( $(MINUTES) * 60 ))
+
+# Three deliberate faults in copies of the library, which the comparison has to find.
+faults: deps-rust
+	tests/second_reader/faults.sh
 
 # FabIO, Debian's reader and writer of the same format, beside the library (docs/PEERS.md).
 PYTHON := /usr/bin/python3 -B
