@@ -1,6 +1,6 @@
 # Daily work. `make test` is the gate; the rest eases the way there.
-.PHONY: test toolchain check must-fail fmt dev skeletons paths staticlib bench clean
-.PHONY: deps-rust deps-peers second-reader compare compare-short soak faults peers compare-frames
+.PHONY: test toolchain check must-fail fmt dev skeletons paths staticlib bench bench-docs clean
+.PHONY: deps-rust deps-peers deps-bench second-reader compare compare-short soak faults peers compare-frames
 
 # What the gate runs after the proofs, in this order: targets of this file, one more line each.
 AFTER_PROOFS += staticlib
@@ -48,8 +48,13 @@ staticlib: $(STATICLIB)
 $(STATICLIB): crates.txt $(shell find crates -name '*.rt' -o -name '*.antt')
 	rt staticlib quayrudder
 
-bench:
+# Against plain C, FabIO and memcpy; the tables are printed.
+bench: deps-bench
 	$(MAKE) --no-print-directory -C bench run
+
+# The same, with the tables put into docs/BENCHMARKS.md and docs/benchmarks.png drawn.
+bench-docs: deps-bench
+	$(MAKE) --no-print-directory -C bench docs
 
 # Debian's packages for what follows, installed where they are missing: cargo from elsewhere will do.
 deps-rust:
@@ -57,6 +62,10 @@ deps-rust:
 
 deps-peers: deps-rust
 	@tools/deps python3-fabio python3-numpy python3-matplotlib
+
+deps-bench: deps-peers
+	@command -v gcc > /dev/null || tools/deps gcc libc6-dev
+	@command -v clang > /dev/null || tools/deps clang
 
 # The comparison with the second reader (tests/second_reader), over the static library.
 SECOND_READER := target/second_reader/release/second_reader
