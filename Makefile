@@ -42,10 +42,10 @@ paths:
 	tools/paths $(NAME) $(FN)
 
 # The static library that C and Rust programs link. rt proves the crate of the C interface again for it, so it is made only where it is stale.
-STATICLIB := target/staticlib/libquayrudder.a
-staticlib: $(STATICLIB)
+LIBRARY := target/staticlib/libquayrudder.a
+staticlib: $(LIBRARY)
 
-$(STATICLIB): crates.txt $(shell find crates -name '*.rt' -o -name '*.antt')
+$(LIBRARY): crates.txt $(shell find crates -name '*.rt' -o -name '*.antt')
 	rt staticlib quayrudder
 
 # Against plain C, FabIO and memcpy; the tables are printed.

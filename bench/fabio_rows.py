@@ -4,6 +4,7 @@ import subprocess
 import sys
 import tempfile
 import time
+from itertools import product
 
 sys.path.insert(0, str(pathlib.Path(__file__).parents[1] / "tests/peers"))
 import bruker  # noqa: E402
@@ -52,7 +53,6 @@ def table(build):
     memory = pathlib.Path("/dev/shm")
     rows = [HEAD]
     with tempfile.TemporaryDirectory(dir=memory if memory.is_dir() else None) as folder:
-        for side in (512, 1024, 4096):
-            for frame in FRAMES:
-                rows += rows_of(build, pathlib.Path(folder), frame, side)
+        for side, frame in product((512, 1024, 4096), FRAMES):
+            rows += rows_of(build, pathlib.Path(folder), frame, side)
     return "\n".join(rows)

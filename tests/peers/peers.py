@@ -4,6 +4,7 @@ import logging
 import pathlib
 import sys
 import tempfile
+from itertools import product
 
 import numpy
 
@@ -68,16 +69,15 @@ def both_read(report, name, path, expected, width=1, underflow=None):
 
 def fabio_86(report, folder, random):
     path = folder / "frame"
-    for width, most in ((1, 999_999_999), (2, 999_999_999), (4, 2**31 - 1)):
-        for shape in SHAPES:
-            pixels = counts(random, shape, most, 0)
-            if width > 1 and pixels.size < 8192:
-                continue
-            overflows_for(pixels.ravel(), width)
-            bruker.fabio_write(path, pixels.astype(numpy.uint32), 86)
-            both_read(report, f"FabIO writes FORMAT 86, width {width}", path, pixels, width)
-            turned_table(path)
-            both_read(report, f"the same, entries turned round, spaces for zeros, width {width}", path, pixels, width)
+    for (width, most), shape in product(((1, 999_999_999), (2, 999_999_999), (4, 2**31 - 1)), SHAPES):
+        pixels = counts(random, shape, most, 0)
+        if width > 1 and pixels.size < 8192:
+            continue
+        overflows_for(pixels.ravel(), width)
+        bruker.fabio_write(path, pixels.astype(numpy.uint32), 86)
+        both_read(report, f"FabIO writes FORMAT 86, width {width}", path, pixels, width)
+        turned_table(path)
+        both_read(report, f"the same, entries turned round, spaces for zeros, width {width}", path, pixels, width)
 
 
 def overflows_for(flat, width):
@@ -98,30 +98,29 @@ def turned_table(path):
     path.write_bytes(data[:start] + turned + data[start + len(turned):])
 
 
+# With kind none FabIO's header still has an underflow width of 1.
+FABIO_KINDS = (("none", None, 1), ("underflows 1", BASELINE, 1), ("underflows 2", 300, 2))
+
+
 def fabio_100(report, folder, random):
     path = folder / "frame"
-    # With kind none FabIO's header still has an underflow width of 1.
-    for name, baseline, underflow in (("none", None, 1), ("underflows 1", BASELINE, 1), ("underflows 2", 300, 2)):
-        for shape in SHAPES:
-            pixels = counts(random, shape, 2**31 - 1 - 300, baseline or 0)
-            if baseline is not None:
-                pixels.ravel()[0] = baseline
-            bruker.fabio_write(path, pixels.astype(numpy.int32), 100, baseline)
-            both_read(report, f"FabIO writes FORMAT 100, width 1, {name}", path, pixels, 1, underflow)
+    for (name, baseline, underflow), shape in product(FABIO_KINDS, SHAPES):
+        pixels = counts(random, shape, 2**31 - 1 - 300, baseline or 0)
+        if baseline is not None:
+            pixels.ravel()[0] = baseline
+        bruker.fabio_write(path, pixels.astype(numpy.int32), 100, baseline)
+        both_read(report, f"FabIO writes FORMAT 100, width 1, {name}", path, pixels, 1, underflow)
 
 
 def library_100(report, folder, random):
     path = folder / "frame"
-    for width in (1, 2, 4):
-        for underflow, baseline in ((0, BASELINE), (1, BASELINE), (2, 300)):
-            for shape in SHAPES:
-                pixels = counts(random, shape, 2**31 - 1, baseline)
-                bruker.fabio_write(path, pixels.clip(1, 9).astype(numpy.int32), 100, baseline)
-                header = path.read_bytes()
-                written = bruker.library_write(path, header, pixels, width, underflow)
-                name = f"the library writes FORMAT 100, width {width}, underflows {underflow}"
-                report.note(name, f"refusal {written.refusal}" if written.refusal else "", "" if written.same else written.text)
-                both_read(report, name, path, pixels, width, underflow)
+    for width, (underflow, baseline), shape in product((1, 2, 4), ((0, BASELINE), (1, BASELINE), (2, 300)), SHAPES):
+        pixels = counts(random, shape, 2**31 - 1, baseline)
+        bruker.fabio_write(path, pixels.clip(1, 9).astype(numpy.int32), 100, baseline)
+        written = bruker.library_write(path, path.read_bytes(), pixels, width, underflow)
+        name = f"the library writes FORMAT 100, width {width}, underflows {underflow}"
+        report.note(name, f"refusal {written.refusal}" if written.refusal else "", "" if written.same else written.text)
+        both_read(report, name, path, pixels, width, underflow)
 
 
 def departures(report, folder):

@@ -11,6 +11,8 @@ void rattle_qr_correct(qr_ledger_answer *, slice *, slice *, uint64_t, uint64_t,
 void rattle_qr_keep(qr_ledger_answer *, slice *, uint64_t, uint32_t, uint32_t, uint32_t);
 void rattle_qr_withdraw(qr_ledger_answer *, slice *, slice *, uint64_t);
 uint32_t rattle_qr_may_purge(slice *, uint64_t, uint32_t, uint32_t, uint32_t);
+void rattle_qr_header(qr_header_answer *, slice *);
+void rattle_qr_list(qr_list_answer *, slice *, slice *);
 
 qr_read_answer qr_read(const uint8_t *frame, size_t frame_len, uint32_t *pixels, size_t pixels_len) {
     slice f = { frame, frame_len }, p = { pixels, pixels_len };
@@ -60,4 +62,18 @@ qr_ledger_answer qr_withdraw(uint8_t *held, size_t held_len, uint8_t *ledger, si
 uint32_t qr_may_purge(const uint8_t *ledger, size_t ledger_len, uint64_t lines, uint32_t year, uint32_t month, uint32_t day) {
     slice l = { ledger, ledger_len };
     return rattle_qr_may_purge(&l, lines, year, month, day);
+}
+
+qr_header_answer qr_header(const uint8_t *frame, size_t frame_len) {
+    slice f = { frame, frame_len };
+    qr_header_answer answer;
+    rattle_qr_header(&answer, &f);
+    return answer;
+}
+
+qr_list_answer qr_list(const uint8_t *ledger, size_t ledger_len, uint8_t *out, size_t out_len) {
+    slice l = { ledger, ledger_len }, o = { out, out_len };
+    qr_list_answer answer;
+    rattle_qr_list(&answer, &l, &o);
+    return answer;
 }

@@ -50,11 +50,14 @@ pub enum Size {
 }
 
 pub const SIZES: [(Size, &str); 5] = [
-    (Size::Small, "to 24 x 24"),
-    (Size::Line, "one row or column to 2048"),
-    (Size::Middle, "to 512 x 512"),
-    (Size::Large, "to 4096 x 4096"),
-    (Size::Full, "the largest"),
+    (Size::Small, "frames to 24 x 24"),
+    (Size::Line, "frames of one row or column, to 2048"),
+    (Size::Middle, "frames to 512 x 512"),
+    (
+        Size::Large,
+        "frames to 4096 x 4096 (FORMAT 86: 2048 x 2048)",
+    ),
+    (Size::Full, "frames of just that size"),
 ];
 
 impl Size {

@@ -58,7 +58,7 @@ impl Tally {
     fn print_sizes(&self) {
         for (size, name) in SIZES {
             let count = self.sizes.get(&size).copied().unwrap_or(0);
-            println!("frames {name}: {count}");
+            println!("{name}: {count}");
         }
     }
 
