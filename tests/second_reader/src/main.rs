@@ -1,7 +1,6 @@
 //! Holds the library against a second reader: `compare --seed N --seconds S`, `replay FILE`, and frames in files.
 #![forbid(unsafe_code)]
 
-mod book;
 mod case;
 mod compare;
 mod fault;
@@ -11,6 +10,7 @@ mod generate;
 mod held;
 mod ledger;
 mod library;
+mod model;
 mod random;
 mod sample;
 mod tally;
@@ -90,6 +90,12 @@ fn agree(options: &Options, tally: &mut Tally, base: &Case, mutations: Vec<Mutat
     left == right
 }
 
+/// Whether to go on: for the seconds asked, and on a slow machine up to four times as long until every refusal was met.
+fn goes_on(options: &Options, tally: &Tally, elapsed: Duration) -> bool {
+    let asked = Duration::from_secs(options.seconds);
+    elapsed < asked || (elapsed < 4 * asked && !tally.all_reached())
+}
+
 fn run_all(options: &Options, tally: &mut Tally) -> bool {
     let start = Instant::now();
     let mut random = Random(options.seed);
@@ -97,7 +103,7 @@ fn run_all(options: &Options, tally: &mut Tally) -> bool {
         .iter()
         .all(|case| agree(options, tally, case, Vec::new()));
     let mut number = 0;
-    while same && start.elapsed() < Duration::from_secs(options.seconds) {
+    while same && goes_on(options, tally, start.elapsed()) {
         let made = generate::case(&mut random, number);
         tally.add_size(made.size);
         same = agree(options, tally, &made.base, made.damage);
