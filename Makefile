@@ -1,10 +1,16 @@
 # Daily work. `make test` is the gate; the rest eases the way there.
-.PHONY: test toolchain check must-fail fmt dev skeletons paths staticlib bench second-reader compare soak clean
+.PHONY: test toolchain check must-fail fmt dev skeletons paths staticlib bench bench-docs clean
+.PHONY: deps-rust deps-peers deps-bench second-reader compare compare-short soak faults peers compare-frames
 
-# The whole gate: every crate proved from nothing, every must-fail edit refused, every program's output compared.
+# What the gate runs after the proofs, in this order: targets of this file, one more line each.
+AFTER_PROOFS += staticlib
+AFTER_PROOFS += compare-short
+
+# The whole gate: every crate proved from nothing, every must-fail edit refused, every program's output compared; then the rest
+# on what was proved. The last line is the prover's verdict.
 test: toolchain
 	rt fmt --check
-	rt ci
+	@tools/gate $(AFTER_PROOFS)
 
 # Says so where another toolchain than the pinned one is found. The proofs are checked by what is found.
 toolchain:
@@ -35,28 +41,64 @@ skeletons:
 paths:
 	tools/paths $(NAME) $(FN)
 
-# The static library that C and Rust programs link.
-staticlib:
+# The static library that C and Rust programs link. rt proves the crate of the C interface again for it, so it is made only where it is stale.
+LIBRARY := target/staticlib/libquayrudder.a
+staticlib: $(LIBRARY)
+
+$(LIBRARY): crates.txt $(shell find crates -name '*.rt' -o -name '*.antt')
 	rt staticlib quayrudder
 
-bench:
+# Against plain C, FabIO and memcpy; the tables are printed.
+bench: deps-bench
 	$(MAKE) --no-print-directory -C bench run
+
+# The same, with the tables put into docs/BENCHMARKS.md and docs/benchmarks.png drawn.
+bench-docs: deps-bench
+	$(MAKE) --no-print-directory -C bench docs
+
+# Debian's packages for what follows, installed where they are missing: cargo from elsewhere will do.
+deps-rust:
+	@command -v cargo > /dev/null || tools/deps cargo-web rustc-web
+
+deps-peers: deps-rust
+	@tools/deps python3-fabio python3-numpy python3-matplotlib
+
+deps-bench: deps-peers
+	@command -v gcc > /dev/null || tools/deps gcc libc6-dev
+	@command -v clang > /dev/null || tools/deps clang
 
 # The comparison with the second reader (tests/second_reader), over the static library.
 SECOND_READER := target/second_reader/release/second_reader
 COMPARE = $(SECOND_READER) compare $(if $(SEED),--seed $(SEED)) --case target/difference.case
 MINUTES ?= 10
 
-second-reader: staticlib
-	cd tests/second_reader && cargo build --release --offline --target-dir ../../target/second_reader
+second-reader: deps-rust staticlib
+	cd tests/second_reader && cargo build --quiet --release --offline --target-dir ../../target/second_reader
 
 # make compare SEED=7: 20 seconds, with a new seed where none is given.
 compare: second-reader
 	$(COMPARE) --seconds 20
 
+# The gate's run.
+compare-short: second-reader
+	$(COMPARE) --seconds 15
+
 # make soak MINUTES=10: the same for longer.
 soak: second-reader
 	$(COMPARE) --seconds $$(( $(MINUTES) * 60 ))
+
+# Three deliberate faults in copies of the library, which the comparison has to find.
+faults: deps-rust
+	tests/second_reader/faults.sh
+
+# FabIO, Debian's reader and writer of the same format, beside the library (docs/PEERS.md).
+PYTHON := /usr/bin/python3 -B
+peers: deps-peers second-reader
+	$(PYTHON) tests/peers/peers.py $(SEED)
+
+# Every file in frames/ read by the library, by the second reader and by FabIO.
+compare-frames: deps-peers second-reader
+	$(PYTHON) tests/peers/compare_frames.py frames
 
 clean:
 	rm -rf target

@@ -8,6 +8,10 @@ typedef struct { uint32_t refusal, place, column, rows, columns; uint64_t end; }
 typedef struct { uint32_t refusal, place, column; uint64_t length; } qr_write_answer;
 typedef struct { uint32_t refusal, place, column, rows, columns; uint64_t end, length; } qr_open_answer;
 typedef struct { uint32_t refusal; uint64_t lines; } qr_ledger_answer;
+typedef struct { uint32_t too_short; uint64_t length; } qr_list_answer;
+typedef struct {
+    uint32_t refusal, place, column, format, start, rows, columns, width, entries, subtracted, entry, baseline, underflows, two, four;
+} qr_header_answer;
 
 /* A frame of FORMAT 100 or 86 into pixels. */
 qr_read_answer qr_read(const uint8_t *frame, size_t frame_len, uint32_t *pixels, size_t pixels_len);
@@ -33,4 +37,11 @@ qr_ledger_answer qr_keep(uint8_t *ledger, size_t ledger_len, uint64_t lines, uin
 
 /* 0: purge is allowed on this day. */
 uint32_t qr_may_purge(const uint8_t *ledger, size_t ledger_len, uint64_t lines, uint32_t year, uint32_t month, uint32_t day);
+
+/* What a header says. start: its length; entries: of FORMAT 86's table; subtracted: 1 where the underflow count is not -1; entry: bytes of an
+   underflow entry. A field that does not apply is 0. */
+qr_header_answer qr_header(const uint8_t *frame, size_t frame_len);
+
+/* The text of a ledger's listing, the last length bytes of out. too_short: 1 where out has no room for it. */
+qr_list_answer qr_list(const uint8_t *ledger, size_t ledger_len, uint8_t *out, size_t out_len);
 #endif

@@ -70,6 +70,25 @@ pub enum Mutation {
 }
 
 impl Case {
+    /// A call with nothing lent to it.
+    pub fn of(call: Call) -> Case {
+        Case {
+            step: Step {
+                call,
+                pixel: 0,
+                count: 0,
+                date: (0, 0, 0),
+            },
+            frame: Vec::new(),
+            pixels: Vec::new(),
+            form: (0, 0),
+            buffer: Vec::new(),
+            ledger: Vec::new(),
+            lines: 0,
+            steps: Vec::new(),
+        }
+    }
+
     pub fn bytes(&self, target: Target) -> &Vec<u8> {
         match target {
             Target::Frame => &self.frame,

@@ -1,9 +1,9 @@
 //! Both answers to a case, and the shrinking of a case on which they differ.
-use crate::book::Book;
 use crate::case::{Call, Case, Mutation, Step};
 use crate::fault::Fault;
 use crate::ledger::{self, Date, Entry};
 use crate::library;
+use crate::model::Model;
 use crate::{frame, held};
 
 /// What a case gave: the answers and every lent byte after each call.
@@ -13,7 +13,7 @@ pub struct Outcome {
     answers: Vec<Vec<u64>>,
     /// A digest of the held buffer and the ledger after each call of a list.
     digests: Vec<u64>,
-    after: Case,
+    pub after: Case,
     respected: bool,
 }
 
@@ -26,6 +26,16 @@ impl Outcome {
             after: case.clone(),
             respected: true,
         }
+    }
+
+    /// The first call's answer.
+    pub fn answer(&self) -> &[u64] {
+        &self.answers[0]
+    }
+
+    pub fn words(&self) -> String {
+        let words: Vec<String> = self.answer().iter().map(u64::to_string).collect();
+        words.join(" ")
     }
 
     fn note(&mut self, call: Call, answer: Vec<u64>) -> u64 {
@@ -147,22 +157,22 @@ fn second_step(step: &Step, out: &mut Outcome) -> u64 {
     out.note(call, answer)
 }
 
-/// Enters one call into the book and brings the held buffer and the ledger to what it says.
-fn book_step(step: &Step, book: &mut Book, out: &mut Outcome) {
+/// Enters one call into the reference model and brings the held buffer and the ledger to what it says.
+fn model_step(step: &Step, model: &mut Model, out: &mut Outcome) {
     let result = match step.call {
-        Call::Correct => book.correct(step.pixel, step.count).map(Some),
-        Call::Keep => book.keep(date(step)).map(Some),
-        Call::Withdraw => book.withdraw().map(Some),
-        _ => book.may_purge(date(step)).map(|()| None),
+        Call::Correct => model.correct(step.pixel, step.count).map(Some),
+        Call::Keep => model.keep(date(step)).map(Some),
+        Call::Withdraw => model.withdraw().map(Some),
+        _ => model.may_purge(date(step)).map(|()| None),
     };
     if let Ok(Some(entry)) = result {
         ledger::append(&mut out.after.ledger, out.after.lines, entry);
-        out.after.buffer = book.held(&book.pixels()).unwrap_or_default();
+        out.after.buffer = model.held(&model.pixels()).unwrap_or_default();
         out.after.lines += 1;
     }
     let mut answer = vec![result.err().unwrap_or(0).into()];
     if step.call != Call::Purge {
-        answer.push(book.lines);
+        answer.push(model.lines);
     }
     out.note(step.call, answer);
     out.digest();
@@ -183,21 +193,25 @@ pub fn by_second_reader(case: &Case) -> Outcome {
         return out;
     }
     let pixels = out.answers[0][3] * out.answers[0][4];
-    let mut book = Book {
+    let mut model = Model {
         header: case.frame.clone(),
         opened: out.after.pixels[..pixels as usize].to_vec(),
         form: case.form,
         held_length: case.buffer.len(),
         ledger_length: case.ledger.len(),
-        pile: Vec::new(),
+        stack: Vec::new(),
         lines: 0,
     };
     for step in &case.steps {
-        book_step(step, &mut book, &mut out);
+        model_step(step, &mut model, &mut out);
     }
-    let lines = ledger::entries(&out.after.ledger, book.lines).unwrap_or_default();
+    let lines = ledger::entries(&out.after.ledger, model.lines).unwrap_or_default();
     let standing = ledger::standing(&lines);
-    assert_eq!(without_old(&standing), without_old(&book.pile), "the pile");
+    assert_eq!(
+        without_old(&standing),
+        without_old(&model.stack),
+        "the stack"
+    );
     out
 }
 

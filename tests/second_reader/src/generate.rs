@@ -3,7 +3,7 @@ use crate::case::{Call, Case, Mutation, Step, Target};
 use crate::frame::{self, Header, LINE, NAME};
 use crate::ledger::{Date, Entry, BYTES};
 use crate::random::Random;
-use crate::sample::{self, Layout, WANTED};
+use crate::sample::{self, Layout, Size, WANTED};
 
 /// Texts for the number of rows or columns.
 const SIZES: &[&str] = &[
@@ -393,13 +393,13 @@ fn step(random: &mut Random, call: Call, pixels: usize, baseline: u32) -> Step {
     }
 }
 
-fn frame_case(random: &mut Random, call: Call) -> Case {
+fn frame_case(random: &mut Random, call: Call, size: Size) -> Case {
     let old = match call {
         Call::Read => random.once_in(3),
         Call::List => false,
         _ => random.once_in(12),
     };
-    let layout = sample::layout(random, if old { 86 } else { 100 });
+    let layout = sample::layout(random, if old { 86 } else { 100 }, size);
     let mut frame = frame_of(random, &layout);
     if random.once_in(4) {
         frame.extend(any_bytes(random, 30));
@@ -425,16 +425,18 @@ fn frame_case(random: &mut Random, call: Call) -> Case {
         pixels,
         form,
         buffer: any_bytes(random, room),
-        ledger: Vec::new(),
-        lines: 0,
-        steps: Vec::new(),
+        ..Case::of(call)
     }
 }
 
-fn list_case(random: &mut Random) -> Case {
-    let mut case = frame_case(random, Call::List);
+fn list_case(random: &mut Random, size: Size) -> Case {
+    let mut case = frame_case(random, Call::List, size);
     let pixels = case.pixels.len();
-    let most = if pixels > 2000 { 4 } else { 40 };
+    let most = match size {
+        Size::Large | Size::Full => 2,
+        _ if pixels > 2000 => 4,
+        _ => 40,
+    };
     let calls = [
         Call::Correct,
         Call::Correct,
@@ -452,8 +454,8 @@ fn list_case(random: &mut Random) -> Case {
     case
 }
 
-fn held_case(random: &mut Random, call: Call) -> Case {
-    let layout = sample::layout(random, 100);
+fn held_case(random: &mut Random, call: Call, size: Size) -> Case {
+    let layout = sample::layout(random, 100, size);
     let mut buffer = match random.below(8) {
         0 => sample::loose_in_cells(random, &layout),
         _ => sample::written(random, &layout),
@@ -477,53 +479,71 @@ fn held_case(random: &mut Random, call: Call) -> Case {
     };
     Case {
         step: step(random, call, layout.pixels(), layout.baseline),
-        frame: Vec::new(),
-        pixels: Vec::new(),
-        form: (0, 0),
         buffer,
         ledger,
         lines,
-        steps: Vec::new(),
+        ..Case::of(call)
     }
 }
 
 /// A valid case and what is then done to its bytes.
-pub fn case(random: &mut Random) -> (Case, Vec<Mutation>) {
-    let call = match random.below(16) {
+pub struct Made {
+    /// None where the call looks at no frame.
+    pub size: Option<Size>,
+    pub base: Case,
+    pub damage: Vec<Mutation>,
+}
+
+/// One case in so many is large, and one large one in LARGEST is as large as its format allows.
+const LARGE: u64 = 16_000;
+const LARGEST: u64 = 5;
+
+/// The size of the case with this number, the first being 0. The first large one comes early, so that a short run has it.
+fn size(random: &mut Random, number: u64) -> Size {
+    if number % LARGE != LARGE / 4 {
+        return Size::usual(random);
+    }
+    match number / LARGE % LARGEST {
+        0 => Size::Full,
+        _ => Size::Large,
+    }
+}
+
+pub fn case(random: &mut Random, number: u64) -> Made {
+    let size = size(random, number);
+    // The last two look at no frame.
+    let calls = if size.is_large() { 14 } else { 16 };
+    let call = match random.below(calls) {
         0..=3 => Call::Read,
         4 | 5 => Call::Write,
         6 | 7 => Call::Open,
         8 | 9 => Call::Correct,
         10 | 11 => Call::Withdraw,
-        12 => Call::Keep,
-        13 => Call::Purge,
-        _ => Call::List,
+        12 | 13 => Call::List,
+        14 => Call::Keep,
+        _ => Call::Purge,
     };
-    let case = match call {
-        Call::Read | Call::Write | Call::Open => frame_case(random, call),
-        Call::List => list_case(random),
-        _ => held_case(random, call),
+    let base = match call {
+        Call::Read | Call::Write | Call::Open => frame_case(random, call, size),
+        Call::List => list_case(random, size),
+        _ => held_case(random, call, size),
     };
-    let mutations = damage(random, &case);
-    (case, mutations)
+    let damage = damage(random, &base);
+    let framed = !matches!(call, Call::Keep | Call::Purge);
+    Made {
+        size: framed.then_some(size),
+        base,
+        damage,
+    }
 }
 
 fn dated(call: Call, date: (u32, u32, u32), ledger: Vec<u8>, lines: u64) -> Case {
-    let (pixel, count) = (0, 0);
+    let mut case = Case::of(call);
+    case.step.date = date;
     Case {
-        step: Step {
-            call,
-            pixel,
-            count,
-            date,
-        },
-        frame: Vec::new(),
-        pixels: Vec::new(),
-        form: (0, 0),
-        buffer: Vec::new(),
         ledger,
         lines,
-        steps: Vec::new(),
+        ..case
     }
 }
 

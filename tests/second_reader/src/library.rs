@@ -1,91 +1,5 @@
-//! The static library behind safe functions: the only unsafe code here.
-//!
-//! Every slice is lent from the middle of a longer buffer whose other places are guards.
-
-#[repr(C)]
-struct ReadAnswer {
-    refusal: u32,
-    place: u32,
-    column: u32,
-    rows: u32,
-    columns: u32,
-    end: u64,
-}
-
-#[repr(C)]
-struct WriteAnswer {
-    refusal: u32,
-    place: u32,
-    column: u32,
-    length: u64,
-}
-
-#[repr(C)]
-struct OpenAnswer {
-    refusal: u32,
-    place: u32,
-    column: u32,
-    rows: u32,
-    columns: u32,
-    end: u64,
-    length: u64,
-}
-
-#[repr(C)]
-struct LedgerAnswer {
-    refusal: u32,
-    lines: u64,
-}
-
-extern "C" {
-    fn qr_read(frame: *const u8, n: usize, pixels: *mut u32, m: usize) -> ReadAnswer;
-    fn qr_write(
-        header: *const u8,
-        n: usize,
-        pixels: *const u32,
-        m: usize,
-        width: u32,
-        underflow: u32,
-        out: *mut u8,
-        l: usize,
-    ) -> WriteAnswer;
-    fn qr_open(
-        frame: *const u8,
-        n: usize,
-        pixels: *mut u32,
-        m: usize,
-        width: u32,
-        underflow: u32,
-        held: *mut u8,
-        l: usize,
-    ) -> OpenAnswer;
-    fn qr_correct(
-        held: *mut u8,
-        n: usize,
-        ledger: *mut u8,
-        m: usize,
-        lines: u64,
-        pixel: u64,
-        count: u32,
-    ) -> LedgerAnswer;
-    fn qr_keep(
-        ledger: *mut u8,
-        n: usize,
-        lines: u64,
-        year: u32,
-        month: u32,
-        day: u32,
-    ) -> LedgerAnswer;
-    fn qr_withdraw(held: *mut u8, n: usize, ledger: *mut u8, m: usize, lines: u64) -> LedgerAnswer;
-    fn qr_may_purge(
-        ledger: *const u8,
-        n: usize,
-        lines: u64,
-        year: u32,
-        month: u32,
-        day: u32,
-    ) -> u32;
-}
+//! The static library, with guards: every slice is lent from the middle of a longer buffer whose other places are guards.
+use quayrudder::{Date, Form, LedgerAnswer};
 
 /// Places before and after a lent slice. Odd, so that bytes are lent unaligned.
 const GUARD: usize = 67;
@@ -98,10 +12,11 @@ struct Lent<T> {
 
 impl<T: Copy + PartialEq> Lent<T> {
     fn new(values: &[T], guard: T) -> Self {
-        let mut cells = vec![guard; GUARD];
-        cells.extend_from_slice(values);
-        cells.extend(std::iter::repeat_n(guard, GUARD));
         let length = values.len();
+        let mut cells = Vec::with_capacity(length + 2 * GUARD);
+        cells.resize(GUARD, guard);
+        cells.extend_from_slice(values);
+        cells.resize(length + 2 * GUARD, guard);
         Lent {
             cells,
             length,
@@ -111,10 +26,6 @@ impl<T: Copy + PartialEq> Lent<T> {
 
     fn middle(&mut self) -> &mut [T] {
         &mut self.cells[GUARD..GUARD + self.length]
-    }
-
-    fn start(&mut self) -> *mut T {
-        self.middle().as_mut_ptr()
     }
 
     fn guards_hold(&self) -> bool {
@@ -145,70 +56,43 @@ fn words<const N: usize>(values: [u32; N]) -> Vec<u64> {
     values.map(u64::from).to_vec()
 }
 
+fn form((width, underflow): (u32, u32)) -> Form {
+    Form { width, underflow }
+}
+
+fn date((year, month, day): (u32, u32, u32)) -> Date {
+    Date { year, month, day }
+}
+
 pub fn read(frame: &[u8], pixels: &mut [u32]) -> Answer {
     let mut a = Lent::new(frame, BYTE);
     let mut b = Lent::new(pixels, WORD);
-    // SAFETY: both slices are valid for their lengths, aligned and lent to nobody else.
-    let r = unsafe { qr_read(a.start(), a.length, b.start(), b.length) };
+    let r = quayrudder::read(a.middle(), b.middle());
     let mut numbers = words([r.refusal, r.place, r.column, r.rows, r.columns]);
     numbers.push(r.end);
     (numbers, a.is_untouched(frame) & b.give_back(pixels))
 }
 
-/// What writing and opening lend: bytes to read, pixels, and a buffer to write.
-struct LentFrame {
-    bytes: Lent<u8>,
-    pixels: Lent<u32>,
-    buffer: Lent<u8>,
-}
-
-impl LentFrame {
-    fn new(bytes: &[u8], pixels: &[u32], buffer: &[u8]) -> Self {
-        LentFrame {
-            bytes: Lent::new(bytes, BYTE),
-            pixels: Lent::new(pixels, WORD),
-            buffer: Lent::new(buffer, BYTE),
-        }
-    }
-
-    /// Each slice as a pointer and a length.
-    fn parts(&mut self) -> (*const u8, usize, *mut u32, usize, *mut u8, usize) {
-        let (n, m, l) = (self.bytes.length, self.pixels.length, self.buffer.length);
-        let (a, b, c) = (self.bytes.start(), self.pixels.start(), self.buffer.start());
-        (a, n, b, m, c, l)
-    }
-}
-
-pub fn write(
-    header: &[u8],
-    pixels: &[u32],
-    (width, underflow): (u32, u32),
-    out: &mut [u8],
-) -> Answer {
-    let mut lent = LentFrame::new(header, pixels, out);
-    let (a, n, b, m, c, l) = lent.parts();
-    // SAFETY: as for read.
-    let r = unsafe { qr_write(a, n, b, m, width, underflow, c, l) };
+pub fn write(header: &[u8], pixels: &[u32], asked: (u32, u32), out: &mut [u8]) -> Answer {
+    let mut a = Lent::new(header, BYTE);
+    let mut b = Lent::new(pixels, WORD);
+    let mut c = Lent::new(out, BYTE);
+    let r = quayrudder::write(a.middle(), b.middle(), form(asked), c.middle());
     let mut numbers = words([r.refusal, r.place, r.column]);
     numbers.push(r.length);
-    let read = lent.bytes.is_untouched(header) & lent.pixels.is_untouched(pixels);
-    (numbers, read & lent.buffer.give_back(out))
+    let read = a.is_untouched(header) & b.is_untouched(pixels);
+    (numbers, read & c.give_back(out))
 }
 
-pub fn open(
-    frame: &[u8],
-    pixels: &mut [u32],
-    (width, underflow): (u32, u32),
-    held: &mut [u8],
-) -> Answer {
-    let mut lent = LentFrame::new(frame, pixels, held);
-    let (a, n, b, m, c, l) = lent.parts();
-    // SAFETY: as for read.
-    let r = unsafe { qr_open(a, n, b, m, width, underflow, c, l) };
+pub fn open(frame: &[u8], pixels: &mut [u32], asked: (u32, u32), held: &mut [u8]) -> Answer {
+    let mut a = Lent::new(frame, BYTE);
+    let mut b = Lent::new(pixels, WORD);
+    let mut c = Lent::new(held, BYTE);
+    let r = quayrudder::open(a.middle(), b.middle(), form(asked), c.middle());
     let mut numbers = words([r.refusal, r.place, r.column, r.rows, r.columns]);
     numbers.extend([r.end, r.length]);
-    let written = lent.pixels.give_back(pixels) & lent.buffer.give_back(held);
-    (numbers, lent.bytes.is_untouched(frame) & written)
+    let written = b.give_back(pixels) & c.give_back(held);
+    (numbers, a.is_untouched(frame) & written)
 }
 
 fn ledger_numbers(answer: LedgerAnswer) -> Vec<u64> {
@@ -218,33 +102,27 @@ fn ledger_numbers(answer: LedgerAnswer) -> Vec<u64> {
 pub fn correct(held: &mut [u8], ledger: &mut [u8], lines: u64, pixel: u64, count: u32) -> Answer {
     let mut a = Lent::new(held, BYTE);
     let mut b = Lent::new(ledger, BYTE);
-    let (n, m) = (a.length, b.length);
-    // SAFETY: as for read.
-    let r = unsafe { qr_correct(a.start(), n, b.start(), m, lines, pixel, count) };
+    let r = quayrudder::correct(a.middle(), b.middle(), lines, pixel, count);
     let respected = a.give_back(held) & b.give_back(ledger);
     (ledger_numbers(r), respected)
 }
 
-pub fn keep(ledger: &mut [u8], lines: u64, (year, month, day): (u32, u32, u32)) -> Answer {
+pub fn keep(ledger: &mut [u8], lines: u64, day: (u32, u32, u32)) -> Answer {
     let mut a = Lent::new(ledger, BYTE);
-    // SAFETY: as for read.
-    let r = unsafe { qr_keep(a.start(), a.length, lines, year, month, day) };
+    let r = quayrudder::keep(a.middle(), lines, date(day));
     (ledger_numbers(r), a.give_back(ledger))
 }
 
 pub fn withdraw(held: &mut [u8], ledger: &mut [u8], lines: u64) -> Answer {
     let mut a = Lent::new(held, BYTE);
     let mut b = Lent::new(ledger, BYTE);
-    let (n, m) = (a.length, b.length);
-    // SAFETY: as for read.
-    let r = unsafe { qr_withdraw(a.start(), n, b.start(), m, lines) };
+    let r = quayrudder::withdraw(a.middle(), b.middle(), lines);
     let respected = a.give_back(held) & b.give_back(ledger);
     (ledger_numbers(r), respected)
 }
 
-pub fn may_purge(ledger: &[u8], lines: u64, (year, month, day): (u32, u32, u32)) -> Answer {
+pub fn may_purge(ledger: &[u8], lines: u64, day: (u32, u32, u32)) -> Answer {
     let mut a = Lent::new(ledger, BYTE);
-    // SAFETY: as for read.
-    let refusal = unsafe { qr_may_purge(a.start(), a.length, lines, year, month, day) };
+    let refusal = quayrudder::may_purge(a.middle(), lines, date(day));
     (vec![u64::from(refusal)], a.is_untouched(ledger))
 }

@@ -1,16 +1,16 @@
-//! Holds the library against a second reader: `compare --seed N --seconds S`, `replay FILE`.
-#![deny(unsafe_code)]
+//! Holds the library against a second reader: `compare --seed N --seconds S`, `replay FILE`, and frames in files.
+#![forbid(unsafe_code)]
 
-mod book;
 mod case;
 mod compare;
 mod fault;
+mod files;
 mod frame;
 mod generate;
 mod held;
 mod ledger;
-#[allow(unsafe_code)]
 mod library;
+mod model;
 mod random;
 mod sample;
 mod tally;
@@ -26,7 +26,9 @@ use tally::Tally;
 
 const USAGE: &str =
     "second_reader compare [--seed N] [--seconds S] [--fault 1..3] [--case FILE] [--trace 1]\n\
-                     second_reader replay FILE [--fault 1..3]";
+                     second_reader replay FILE [--fault 1..3]\n\
+                     second_reader expand FRAME PIXELS\n\
+                     second_reader store HEADER PIXELS WIDTH UNDERFLOW FRAME";
 
 struct Options {
     seed: u64,
@@ -37,7 +39,7 @@ struct Options {
     trace: bool,
 }
 
-fn options(words: &[String]) -> Option<Options> {
+fn options(words: &[&str]) -> Option<Options> {
     let now = SystemTime::now().duration_since(UNIX_EPOCH).ok()?;
     let mut found = Options {
         seed: now.as_secs(),
@@ -48,12 +50,12 @@ fn options(words: &[String]) -> Option<Options> {
     };
     for pair in words.chunks(2) {
         let [name, value] = pair else { return None };
-        match name.as_str() {
+        match *name {
             "--seed" => found.seed = value.parse().ok()?,
             "--seconds" => found.seconds = value.parse().ok()?,
             "--fault" => found.fault = Fault::numbered(value.parse().ok()?)?,
-            "--case" => found.file = value.clone(),
-            "--trace" => found.trace = value == "1",
+            "--case" => found.file = value.to_string(),
+            "--trace" => found.trace = *value == "1",
             _ => return None,
         }
     }
@@ -88,15 +90,24 @@ fn agree(options: &Options, tally: &mut Tally, base: &Case, mutations: Vec<Mutat
     left == right
 }
 
+/// Whether to go on: for the seconds asked, and on a slow machine up to four times as long until every refusal was met.
+fn goes_on(options: &Options, tally: &Tally, elapsed: Duration) -> bool {
+    let asked = Duration::from_secs(options.seconds);
+    elapsed < asked || (elapsed < 4 * asked && !tally.all_reached())
+}
+
 fn run_all(options: &Options, tally: &mut Tally) -> bool {
     let start = Instant::now();
     let mut random = Random(options.seed);
     let mut same = generate::calendar()
         .iter()
         .all(|case| agree(options, tally, case, Vec::new()));
-    while same && start.elapsed() < Duration::from_secs(options.seconds) {
-        let (base, mutations) = generate::case(&mut random);
-        same = agree(options, tally, &base, mutations);
+    let mut number = 0;
+    while same && goes_on(options, tally, start.elapsed()) {
+        let made = generate::case(&mut random, number);
+        tally.add_size(made.size);
+        same = agree(options, tally, &made.base, made.damage);
+        number += 1;
     }
     println!("{:.2} s", start.elapsed().as_secs_f64());
     same
@@ -132,22 +143,35 @@ fn run_replay(file: &str, options: &Options) -> ExitCode {
     ExitCode::SUCCESS
 }
 
+fn verdict(result: std::io::Result<bool>) -> ExitCode {
+    match result {
+        Ok(true) => ExitCode::SUCCESS,
+        Ok(false) => ExitCode::FAILURE,
+        Err(error) => {
+            eprintln!("{error}");
+            ExitCode::from(2)
+        }
+    }
+}
+
+fn run(words: &[&str]) -> Option<ExitCode> {
+    match words {
+        ["compare", rest @ ..] => Some(run_compare(&options(rest)?)),
+        ["replay", file, rest @ ..] => Some(run_replay(file, &options(rest)?)),
+        ["expand", frame, pixels] => Some(verdict(files::expand(frame, pixels))),
+        ["store", header, pixels, width, underflow, frame] => {
+            let form = (width.parse().ok()?, underflow.parse().ok()?);
+            Some(verdict(files::store(header, pixels, form, frame)))
+        }
+        _ => None,
+    }
+}
+
 fn main() -> ExitCode {
     let words: Vec<String> = std::env::args().skip(1).collect();
-    let (command, rest) = words.split_at(words.len().min(1));
-    match command.first().map(String::as_str) {
-        Some("compare") => {
-            if let Some(options) = options(rest) {
-                return run_compare(&options);
-            }
-        }
-        Some("replay") if !rest.is_empty() => {
-            if let Some(options) = options(&rest[1..]) {
-                return run_replay(&rest[0], &options);
-            }
-        }
-        _ => {}
-    }
-    eprintln!("{USAGE}");
-    ExitCode::from(2)
+    let words: Vec<&str> = words.iter().map(String::as_str).collect();
+    run(&words).unwrap_or_else(|| {
+        eprintln!("{USAGE}");
+        ExitCode::from(2)
+    })
 }

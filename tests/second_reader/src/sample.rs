@@ -39,19 +39,60 @@ const EDGES: [usize; 24] = [
     1025, 1026, 1537, 2047, 2048,
 ];
 
-/// Rows and columns: small ones mostly.
-fn shape(random: &mut Random) -> (usize, usize) {
-    let bound = random.pick(&[1, 2, 4, 8, 8, 24]);
-    match random.below(600) {
-        0 => (1 + random.index(512), 1 + random.index(512)),
-        1..=40 => (1, random.pick(&EDGES)),
-        41..=60 => (random.pick(&EDGES), 1),
+/// How large a frame is.
+#[derive(Clone, Copy, Debug, PartialEq, Eq, PartialOrd, Ord)]
+pub enum Size {
+    Small,
+    Line,
+    Middle,
+    Large,
+    Full,
+}
+
+pub const SIZES: [(Size, &str); 5] = [
+    (Size::Small, "frames to 24 x 24"),
+    (Size::Line, "frames of one row or column, to 2048"),
+    (Size::Middle, "frames to 512 x 512"),
+    (
+        Size::Large,
+        "frames to 4096 x 4096 (FORMAT 86: 2048 x 2048)",
+    ),
+    (Size::Full, "frames of just that size"),
+];
+
+impl Size {
+    /// Small mostly, and not large.
+    pub fn usual(random: &mut Random) -> Size {
+        match random.below(600) {
+            0 => Size::Middle,
+            1..=60 => Size::Line,
+            _ => Size::Small,
+        }
+    }
+
+    pub fn is_large(self) -> bool {
+        self >= Size::Large
+    }
+}
+
+/// Rows and columns.
+fn shape(random: &mut Random, format: u32, size: Size) -> (usize, usize) {
+    let side = if format == 86 { 2048 } else { 4096 };
+    let bound = match size {
+        Size::Small => random.pick(&[1, 2, 4, 8, 8, 24]),
+        Size::Middle => 512,
+        _ => side,
+    };
+    match size {
+        Size::Line if random.once_in(3) => (random.pick(&EDGES), 1),
+        Size::Line => (1, random.pick(&EDGES)),
+        Size::Full => (side, side),
         _ => (1 + random.index(bound), 1 + random.index(bound)),
     }
 }
 
-pub fn layout(random: &mut Random, format: u32) -> Layout {
-    let (rows, columns) = shape(random);
+pub fn layout(random: &mut Random, format: u32, size: Size) -> Layout {
+    let (rows, columns) = shape(random, format, size);
     let blocks = match format {
         86 => random.pick(&[10, 15, 20, 60]),
         _ => random.pick(&[13, 13, 14, 15, 16, 64]),

@@ -1,11 +1,13 @@
 //! Counts per call and refusal.
 use crate::case::{Call, CALLS};
+use crate::sample::{Size, SIZES};
 use std::collections::BTreeMap;
 
 #[derive(Default)]
 pub struct Tally {
     cases: u64,
     lists: u64,
+    sizes: BTreeMap<Size, u64>,
     met: BTreeMap<(Call, u64), u64>,
 }
 
@@ -33,6 +35,13 @@ impl Tally {
         }
     }
 
+    /// Counts a case by its frame's size.
+    pub fn add_size(&mut self, size: Option<Size>) {
+        if let Some(size) = size {
+            *self.sizes.entry(size).or_default() += 1;
+        }
+    }
+
     pub fn cases(&self) -> u64 {
         self.cases
     }
@@ -46,11 +55,19 @@ impl Tally {
         CALLS.iter().all(|(call, _)| reached(*call))
     }
 
+    fn print_sizes(&self) {
+        for (size, name) in SIZES {
+            let count = self.sizes.get(&size).copied().unwrap_or(0);
+            println!("{name}: {count}");
+        }
+    }
+
     pub fn print(&self) {
         println!(
             "cases {}, of them lists of calls {}",
             self.cases, self.lists
         );
+        self.print_sizes();
         print!("{:>8}", "refusal");
         let calls = &CALLS[..CALLS.len() - 1];
         calls.iter().for_each(|(_, name)| print!("{name:>10}"));

@@ -101,9 +101,9 @@ fn standing_after_two_withdrawals() {
 #[test]
 fn case_files_come_back() {
     let mut random = Random(3);
-    for _ in 0..200 {
-        let (base, mutations) = generate::case(&mut random);
-        let case = base.mutated(&mutations);
+    for number in 0..200 {
+        let made = generate::case(&mut random, number);
+        let case = made.base.mutated(&made.damage);
         assert_eq!(Case::from_text(&case.to_text()), Some(case));
     }
 }

@@ -1,25 +1,25 @@
-//! The plain book: a pile of entries over the pixels opened.
+//! The reference model: a stack of entries over the pixels opened.
 use crate::frame;
 use crate::ledger::{self, Date, Entry};
 
-pub struct Book {
+pub struct Model {
     pub header: Vec<u8>,
     pub opened: Vec<u32>,
     pub form: (u32, u32),
     pub held_length: usize,
     pub ledger_length: usize,
-    pub pile: Vec<Entry>,
+    pub stack: Vec<Entry>,
     pub lines: u64,
 }
 
-impl Book {
+impl Model {
     fn is_full(&self) -> bool {
         self.lines >= (self.ledger_length / ledger::BYTES) as u64
     }
 
     pub fn pixels(&self) -> Vec<u32> {
         let mut pixels = self.opened.clone();
-        for entry in &self.pile {
+        for entry in &self.stack {
             if let Entry::Correction { pixel, new, .. } = entry {
                 pixels[*pixel as usize] = *new;
             }
@@ -50,7 +50,7 @@ impl Book {
         self.held(&pixels)?;
         let pixel = pixel as u32;
         let entry = Entry::Correction { pixel, old, new };
-        self.pile.push(entry);
+        self.stack.push(entry);
         self.lines += 1;
         Ok(entry)
     }
@@ -62,24 +62,24 @@ impl Book {
         if self.is_full() {
             return Err(21);
         }
-        self.pile.push(Entry::Keep(date));
+        self.stack.push(Entry::Keep(date));
         self.lines += 1;
         Ok(Entry::Keep(date))
     }
 
     pub fn withdraw(&mut self) -> Result<Entry, u32> {
-        if self.pile.is_empty() {
+        if self.stack.is_empty() {
             return Err(22);
         }
         if self.is_full() {
             return Err(21);
         }
-        self.pile.pop();
+        self.stack.pop();
         self.lines += 1;
         Ok(Entry::Withdrawal)
     }
 
     pub fn may_purge(&self, asked: Date) -> Result<(), u32> {
-        ledger::purge_answer(&self.pile, asked)
+        ledger::purge_answer(&self.stack, asked)
     }
 }

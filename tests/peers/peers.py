@@ -1,0 +1,153 @@
+#!/usr/bin/python3
+"""FabIO's frames read by the library and the library's by FabIO, pixel by pixel; then where FabIO departs from the published format."""
+import logging
+import pathlib
+import sys
+import tempfile
+from itertools import product
+
+import numpy
+
+import bruker
+from departures import DEPARTURES
+
+SHAPES = [(1, 1), (1, 7), (3, 5), (64, 65), (512, 512), (2048, 2048)]
+BASELINE = 32
+
+
+def counts(random, shape, most, baseline):
+    """Counts like measured ones: few above 255, fewer above 65535, some at or below the baseline."""
+    pixels = random.integers(1, 200, shape, dtype=numpy.int64) + baseline
+    kind = random.random(shape)
+    near = [0, 1, 31, 32, 33, 253, 254, 255, 256, 286, 287, 288, 65534, 65535, 65536, 65566, 65567, 65568, most]
+    pixels = numpy.where(kind < 0.004, random.integers(255, 70000, shape), pixels)
+    pixels = numpy.where(kind < 0.002, random.choice(near, shape), pixels)
+    pixels = numpy.where(kind > 0.99, random.integers(0, baseline + 1, shape), pixels)
+    return numpy.minimum(pixels, most)
+
+
+def first_difference(found, expected):
+    if not isinstance(found, numpy.ndarray):
+        return f"no pixels: {found}"
+    if found.shape != expected.shape:
+        return f"shape {found.shape}, not {expected.shape}"
+    places = numpy.flatnonzero(found.astype(numpy.int64) != expected)
+    if places.size == 0:
+        return ""
+    place = int(places[0])
+    return f"{places.size} pixels, the first {place}: {found.ravel()[place]}, not {expected.ravel()[place]}"
+
+
+class Report:
+    def __init__(self):
+        self.agreed, self.failed = {}, 0
+
+    def note(self, name, *differences):
+        found = [text for text in differences if text]
+        self.agreed.setdefault(name, [0, 0])[bool(found)] += len(differences)
+        for text in found:
+            self.failed += 1
+            print(f"DIFFERENT: {name}: {text}")
+
+
+def field(path, line, index=0):
+    """A number of a header line."""
+    with open(path, "rb") as file:
+        file.seek(80 * line + 8)
+        return int(file.read(72).split()[index])
+
+
+def both_read(report, name, path, expected, width=1, underflow=None):
+    """The library, the second reader and FabIO read a file that has this form."""
+    found = field(path, 39), None if underflow is None else field(path, 39, 1)
+    report.note(name, "" if found == (width, underflow) else f"form {found}")
+    ours = bruker.library_read(path)
+    pixels = ours.pixels if ours.refusal == 0 else f"refusal {ours.refusal}"
+    second = "" if ours.same else f"the second reader: {ours.text}"
+    report.note(name, first_difference(pixels, expected), second, first_difference(bruker.fabio_read(path), expected))
+
+
+def fabio_86(report, folder, random):
+    path = folder / "frame"
+    for (width, most), shape in product(((1, 999_999_999), (2, 999_999_999), (4, 2**31 - 1)), SHAPES):
+        pixels = counts(random, shape, most, 0)
+        if width > 1 and pixels.size < 8192:
+            continue
+        overflows_for(pixels.ravel(), width)
+        bruker.fabio_write(path, pixels.astype(numpy.uint32), 86)
+        both_read(report, f"FabIO writes FORMAT 86, width {width}", path, pixels, width)
+        turned_table(path)
+        both_read(report, f"the same, entries turned round, spaces for zeros, width {width}", path, pixels, width)
+
+
+def overflows_for(flat, width):
+    """FabIO stores one byte for each pixel where fewer than 4096 overflow, two where fewer than 4096 overflow those, else four."""
+    if width == 1:
+        flat[numpy.flatnonzero(flat >= 255)[4000:]] = 254
+    else:
+        flat[:5000] = 300 if width == 2 else 70000
+
+
+def turned_table(path):
+    """The entries of a FORMAT 86 frame in the opposite order, their leading zeros made spaces."""
+    data = path.read_bytes()
+    blocks, count, width, rows, columns = (field(path, line) for line in (2, 20, 39, 40, 41))
+    start = 512 * blocks + width * rows * columns
+    entries = [data[start + 16 * i:start + 16 * i + 16] for i in range(count)]
+    turned = b"".join(b"%9d%7d" % (int(e[:9]), int(e[9:])) for e in reversed(entries))
+    path.write_bytes(data[:start] + turned + data[start + len(turned):])
+
+
+# With kind none FabIO's header still has an underflow width of 1.
+FABIO_KINDS = (("none", None, 1), ("underflows 1", BASELINE, 1), ("underflows 2", 300, 2))
+
+
+def fabio_100(report, folder, random):
+    path = folder / "frame"
+    for (name, baseline, underflow), shape in product(FABIO_KINDS, SHAPES):
+        pixels = counts(random, shape, 2**31 - 1 - 300, baseline or 0)
+        if baseline is not None:
+            pixels.ravel()[0] = baseline
+        bruker.fabio_write(path, pixels.astype(numpy.int32), 100, baseline)
+        both_read(report, f"FabIO writes FORMAT 100, width 1, {name}", path, pixels, 1, underflow)
+
+
+def library_100(report, folder, random):
+    path = folder / "frame"
+    for width, (underflow, baseline), shape in product((1, 2, 4), ((0, BASELINE), (1, BASELINE), (2, 300)), SHAPES):
+        pixels = counts(random, shape, 2**31 - 1, baseline)
+        bruker.fabio_write(path, pixels.clip(1, 9).astype(numpy.int32), 100, baseline)
+        written = bruker.library_write(path, path.read_bytes(), pixels, width, underflow)
+        name = f"the library writes FORMAT 100, width {width}, underflows {underflow}"
+        report.note(name, f"refusal {written.refusal}" if written.refusal else "", "" if written.same else written.text)
+        both_read(report, name, path, pixels, width, underflow)
+
+
+def departures(report, folder):
+    print("\nWhere FabIO departs:")
+    for name, trial in DEPARTURES:
+        text = trial(folder / "frame")
+        print(f"- {name}: {text}")
+        report.note("departures as docs/PEERS.md has them", "" if text.startswith("as noted") else f"{name}: {text}")
+
+
+def main():
+    logging.disable(logging.CRITICAL)
+    numpy.seterr(divide="ignore")
+    seed = int(sys.argv[1]) if len(sys.argv) > 1 else 2026
+    print(f"seed {seed}")
+    random = numpy.random.default_rng(seed)
+    report = Report()
+    with tempfile.TemporaryDirectory() as folder:
+        folder = pathlib.Path(folder)
+        for trial in (fabio_86, fabio_100, library_100):
+            trial(report, folder, random)
+        departures(report, folder)
+    print()
+    for name, (agreed, failed) in report.agreed.items():
+        print(f"{name}: {agreed} comparisons agree" + (f", {failed} DIFFER" if failed else ""))
+    return 1 if report.failed else 0
+
+
+if __name__ == "__main__":
+    sys.exit(main())

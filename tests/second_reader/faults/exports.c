@@ -1,0 +1,79 @@
+/* The C interface over a module that was compiled as a program with no proof: there a slice is a pointer to its start and length, and
+   an answer goes through a pointer. */
+#include "../../../bench/quayrudder.h"
+
+typedef struct { const void *start; size_t length; } slice;
+
+void rattle_qr_read(qr_read_answer *, slice *, slice *);
+void rattle_qr_write(qr_write_answer *, slice *, slice *, uint32_t, uint32_t, slice *);
+void rattle_qr_open(qr_open_answer *, slice *, slice *, uint32_t, uint32_t, slice *);
+void rattle_qr_correct(qr_ledger_answer *, slice *, slice *, uint64_t, uint64_t, uint32_t);
+void rattle_qr_keep(qr_ledger_answer *, slice *, uint64_t, uint32_t, uint32_t, uint32_t);
+void rattle_qr_withdraw(qr_ledger_answer *, slice *, slice *, uint64_t);
+uint32_t rattle_qr_may_purge(slice *, uint64_t, uint32_t, uint32_t, uint32_t);
+void rattle_qr_header(qr_header_answer *, slice *);
+void rattle_qr_list(qr_list_answer *, slice *, slice *);
+
+qr_read_answer qr_read(const uint8_t *frame, size_t frame_len, uint32_t *pixels, size_t pixels_len) {
+    slice f = { frame, frame_len }, p = { pixels, pixels_len };
+    qr_read_answer answer;
+    rattle_qr_read(&answer, &f, &p);
+    return answer;
+}
+
+qr_write_answer qr_write(const uint8_t *header, size_t header_len, const uint32_t *pixels, size_t pixels_len,
+                         uint32_t width, uint32_t underflow, uint8_t *out, size_t out_len) {
+    slice h = { header, header_len }, p = { pixels, pixels_len }, o = { out, out_len };
+    qr_write_answer answer;
+    rattle_qr_write(&answer, &h, &p, width, underflow, &o);
+    return answer;
+}
+
+qr_open_answer qr_open(const uint8_t *frame, size_t frame_len, uint32_t *pixels, size_t pixels_len,
+                       uint32_t width, uint32_t underflow, uint8_t *held, size_t held_len) {
+    slice f = { frame, frame_len }, p = { pixels, pixels_len }, h = { held, held_len };
+    qr_open_answer answer;
+    rattle_qr_open(&answer, &f, &p, width, underflow, &h);
+    return answer;
+}
+
+qr_ledger_answer qr_correct(uint8_t *held, size_t held_len, uint8_t *ledger, size_t ledger_len,
+                            uint64_t lines, uint64_t pixel, uint32_t count) {
+    slice h = { held, held_len }, l = { ledger, ledger_len };
+    qr_ledger_answer answer;
+    rattle_qr_correct(&answer, &h, &l, lines, pixel, count);
+    return answer;
+}
+
+qr_ledger_answer qr_keep(uint8_t *ledger, size_t ledger_len, uint64_t lines, uint32_t year, uint32_t month, uint32_t day) {
+    slice l = { ledger, ledger_len };
+    qr_ledger_answer answer;
+    rattle_qr_keep(&answer, &l, lines, year, month, day);
+    return answer;
+}
+
+qr_ledger_answer qr_withdraw(uint8_t *held, size_t held_len, uint8_t *ledger, size_t ledger_len, uint64_t lines) {
+    slice h = { held, held_len }, l = { ledger, ledger_len };
+    qr_ledger_answer answer;
+    rattle_qr_withdraw(&answer, &h, &l, lines);
+    return answer;
+}
+
+uint32_t qr_may_purge(const uint8_t *ledger, size_t ledger_len, uint64_t lines, uint32_t year, uint32_t month, uint32_t day) {
+    slice l = { ledger, ledger_len };
+    return rattle_qr_may_purge(&l, lines, year, month, day);
+}
+
+qr_header_answer qr_header(const uint8_t *frame, size_t frame_len) {
+    slice f = { frame, frame_len };
+    qr_header_answer answer;
+    rattle_qr_header(&answer, &f);
+    return answer;
+}
+
+qr_list_answer qr_list(const uint8_t *ledger, size_t ledger_len, uint8_t *out, size_t out_len) {
+    slice l = { ledger, ledger_len }, o = { out, out_len };
+    qr_list_answer answer;
+    rattle_qr_list(&answer, &l, &o);
+    return answer;
+}
