@@ -46,10 +46,12 @@ pub fn pgm(file: &Path, counts: &Counts, clip: bool) -> Outcome<Vec<u8>> {
         return Err(Failure::declined(file, why));
     }
     let samples: Vec<u16> = counts.pixels.iter().map(|&count| count.min(65535) as u16).collect();
+    let (width, height) = (counts.columns, counts.rows);
+    let header = pnm::GraymapHeader { encoding: pnm::SampleEncoding::Binary, width, height, maxwhite: 65535 };
     let mut bytes = Vec::new();
     pnm::PnmEncoder::new(&mut bytes)
-        .with_subtype(pnm::PnmSubtype::Graymap(pnm::SampleEncoding::Binary))
-        .encode(samples.as_slice(), counts.columns, counts.rows, ColorType::L16)
+        .with_header(header.into())
+        .encode(samples.as_slice(), width, height, ColorType::L16)
         .map_err(encoder(file))?;
     Ok(bytes)
 }
