@@ -26,10 +26,13 @@ use Rattle.ledger.specs.declared.PurgeAnswer.{PurgeAnswer}
 use Rattle.ledger.specs.declared.PurgeAnswer.the-variants as P
 use Rattle.archive.specs.declared.OpenAnswer.{OpenAnswer}
 use Rattle.archive.specs.declared.OpenAnswer.the-variants as O
+use Rattle.listing.specs.declared.ListAnswer.{ListAnswer}
+use Rattle.listing.specs.declared.ListAnswer.the-variants as I
 use Rattle.quayrudder.specs.declared.ReadResult.{ReadResult}
 use Rattle.quayrudder.specs.declared.OpenResult.{OpenResult}
 use Rattle.quayrudder.specs.declared.WriteResult.{WriteResult}
 use Rattle.quayrudder.specs.declared.LedgerResult.{LedgerResult}
+use Rattle.quayrudder.specs.declared.ListResult.{ListResult}
 
 -- a refusal's number, and its header line or entry
 abbrev pub readRefused : Refusal → ReadResult
@@ -92,3 +95,8 @@ purgeResult (P.Refused r) = refusalNumber r
 
 abbrev pub date : ℕ → ℕ → ℕ → Date
 date year month day = record { year = year; month = month; day = day }
+
+-- the text's bytes at the end of the buffer
+abbrev pub listResult : ListAnswer → ListResult
+listResult (I.Listed used) = record { short = 0; length = used }
+listResult I.TooShort = record { short = 1; length = 0 }

@@ -1,6 +1,7 @@
 // The C interface: the library's functions under fixed names, with answers as plain numbers.
 use archive::OpenAnswer;
 use calendar::Date;
+use header_report::HeaderReport;
 use layout::EntryAnswer;
 use layout::Form;
 use layout::Underflow;
@@ -8,18 +9,22 @@ use layout::Width;
 use layout::WidthAnswer;
 use ledger::LedgerAnswer;
 use ledger::PurgeAnswer;
+use listing::ListAnswer;
 use reader::ReadAnswer;
 use refusal::Refusal;
 use writer::AskedForm;
 use writer::WriteAnswer;
 ghost use mathlib.Core.Path.{_≡_};
 ghost use lib.ListN.{length};
+ghost use Rattle.header.specs.Header.{headerOf};
+ghost use Rattle.header_report.specs.Report.{headerReport};
 ghost use Rattle.reader.specs.Reader.{readAnswer, readPixels};
 ghost use Rattle.ledger.specs.Ledger.{keepAnswer, keepBytes, purgeAnswer};
+ghost use Rattle.listing.specs.Listing.{listAnswer, listBytes};
 ghost use Rattle.writer.specs.Writer.{writeAnswer, writeBytes};
 ghost use Rattle.archive.specs.Open.{openAnswer, openPixels, openHeld};
 ghost use Rattle.archive.specs.Calls.{correctOutcome, withdrawOutcome};
-ghost use Rattle.quayrudder.specs.Answers.{readRefused, readResult, asForm, askedForm, writeResult, notOpened, openResult, ledgerResult, purgeResult, date};
+ghost use Rattle.quayrudder.specs.Answers.{readRefused, readResult, asForm, askedForm, writeResult, notOpened, openResult, ledgerResult, purgeResult, date, listResult};
 
 // refusal is 0 where the call is accepted. Every field that a case does not name is 0.
 #[repr(C)]
@@ -55,6 +60,20 @@ pub struct OpenResult {
 pub struct LedgerResult {
     pub refusal: u32,
     pub lines: u64,
+}
+
+#[repr(C)]
+pub struct ListResult {
+    pub short: u32,
+    pub length: u64,
+}
+
+// What the header of a frame says.
+#[no_mangle]
+pub extern "C" fn qr_header(frame: &[u8]) -> HeaderReport
+    ensures { λ r. ⌜ r ≡ headerReport (headerOf (now (frame .entry))) ⌝ }
+{
+    header_report::report(frame)
 }
 
 fn read_refused(r: Refusal) -> ReadResult
@@ -291,4 +310,28 @@ pub extern "C" fn qr_may_purge(ledger: &[u8], lines: u64, year: u32, month: u32,
     ensures { λ r. ⌜ r ≡ purgeResult (purgeAnswer (now (ledger .entry)) lines (date year month day)) ⌝ }
 {
     purge_result(ledger::may_purge(ledger, lines, Date { year, month, day }))
+}
+
+fn list_result(answer: ListAnswer) -> ListResult
+    ensures { λ r. ⌜ r ≡ listResult answer ⌝ }
+{
+    match answer {
+        ListAnswer::Listed { used } => ListResult {
+            short: 0,
+            length: used as u64,
+        },
+        ListAnswer::TooShort => ListResult {
+            short: 1,
+            length: 0,
+        },
+    }
+}
+
+// The listing of a ledger, at the end of the buffer.
+#[no_mangle]
+pub extern "C" fn qr_list(ledger: &[u8], out: &mut [u8]) -> ListResult
+    ensures { λ r. ⌜ r ≡ listResult (listAnswer (now (ledger .entry)) (length (now (out .entry)))) ⌝ }
+    ensures { λ _. ⌜ now (out .exit) ≡ listBytes (now (ledger .entry)) (now (out .entry)) ⌝ }
+{
+    list_result(listing::list(ledger, out))
 }
