@@ -1,5 +1,5 @@
 # Daily work. `make test` is the gate; the rest eases the way there.
-.PHONY: test toolchain check must-fail fmt dev skeletons paths staticlib bench second-reader compare soak clean
+.PHONY: test toolchain check must-fail fmt dev skeletons paths staticlib bench second-reader compare soak deps cli cli-test demo clean
 
 # The whole gate: every crate proved from nothing, every must-fail edit refused, every program's output compared.
 test: toolchain
@@ -57,6 +57,34 @@ compare: second-reader
 # make soak MINUTES=10: the same for longer.
 soak: second-reader
 	$(COMPARE) --seconds $$(( $(MINUTES) * 60 ))
+
+# The command quayrudder (cli), from Debian's crates over the static library.
+LIBRARY := target/staticlib/libquayrudder.a
+CLI := target/cli/release/quayrudder
+DEBIAN := gcc $(patsubst %,librust-%-dev,chrono clap crc32fast image indicatif rayon serde-json tempfile walkdir)
+APT = $$([ "$$(id -u)" = 0 ] || echo sudo) apt-get -qq -o DPkg::Lock::Timeout=600
+
+# Installs the Debian packages that are missing.
+deps:
+	@command -v cargo > /dev/null || { echo "cargo is missing: install Rust 1.89 or later" >&2; exit 1; }
+	@missing=""; for name in $(DEBIAN); do \
+		dpkg -s $$name 2> /dev/null | grep -q '^Status: install ok installed' || missing="$$missing $$name"; done; \
+	if [ -n "$$missing" ]; then echo "installing$$missing"; \
+		{ $(APT) update && $(APT) -y --no-install-recommends install $$missing; } > /dev/null; fi
+
+$(LIBRARY): crates.txt $(wildcard crates/*/src/*.rt)
+	rt staticlib quayrudder
+
+cli: deps $(LIBRARY)
+	cd cli && cargo build -q --release --offline --bins --examples
+
+# Runs the command in every way: each refusal, the machine failing at every step, two processes at one holding.
+cli-test: deps $(LIBRARY)
+	cd cli && cargo test -q --release --offline
+
+# The main job on an example frame: README's first command.
+demo: cli
+	@cli/demo.sh $(CLI) target/demo
 
 clean:
 	rm -rf target

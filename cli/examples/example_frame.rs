@@ -1,5 +1,5 @@
 //! Makes DIR/header.bin and DIR/counts.raw, from which `quayrudder write` makes the example frame: a lattice of spots over a
-//! background that falls off from the middle.
+//! background that falls off from the middle, and one hot pixel.
 #[path = "../tests/common/header.rs"]
 mod header;
 
@@ -9,6 +9,8 @@ use std::path::PathBuf;
 
 const ROWS: u32 = 256;
 const COLUMNS: u32 = 384;
+/// The hot pixel's row and column.
+const HOT: (i64, i64) = (100, 250);
 /// Steps between spots, along both axes.
 const LATTICE: i64 = 24;
 
@@ -21,9 +23,12 @@ fn main() -> std::io::Result<()> {
 
 fn count(pixel: u32) -> u32 {
     let (row, column) = (i64::from(pixel / COLUMNS), i64::from(pixel % COLUMNS));
+    if (row, column) == HOT {
+        return 4_000_000;
+    }
     let (y, x) = (row - i64::from(ROWS) / 2, column - i64::from(COLUMNS) / 2);
     let from_middle = y * y + x * x;
-    let background = 30 + 2_000_000 / (from_middle + 20_000) + noise(pixel);
+    let background = 4 + 2_000_000 / (from_middle + 20_000) + noise(pixel);
     let (dy, dx) = (nearest(y + x / 6), nearest(x - y / 6));
     let spot = strength(from_middle) >> (2 * (dy * dy + dx * dx)).min(40);
     (background + spot) as u32
