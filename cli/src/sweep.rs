@@ -46,11 +46,8 @@ pub fn sweep(output: &mut Output, asked: &Sweep) -> Outcome<()> {
     must_be_a_day(asked.day)?;
     let (names, unread) = find(&asked.folder)?;
     let mut log = if asked.delete { Some(Log::open(asked)?) } else { None };
-    let mut totals = Totals::default();
-    for failure in &unread {
-        totals.failed += 1;
-        output.failed(failure)?;
-    }
+    let mut totals = Totals { failed: unread.len() as u64, ..Totals::default() };
+    unread.iter().try_for_each(|failure| output.failed(failure))?;
     let bar = progress(names.len() as u64);
     for batch in names.chunks(BATCH) {
         let answers: Vec<Answer> = batch.par_iter().map(|name| ask(name, asked.day)).collect();
