@@ -155,6 +155,13 @@ impl Owned<'_> {
         files::remove(&holding.redo)
     }
 
+    /// For a holding that could not be made: its lock file goes, unless a record is there to be finished.
+    pub fn leave_no_lock(&self) {
+        if self.holding.must_exist().is_err() {
+            let _ = files::remove(&self.holding.lock);
+        }
+    }
+
     /// Deletes the holding. The ledger goes after the held file: while it is there, the purge can be asked for again.
     pub fn delete(self) -> Outcome<()> {
         let holding = self.holding;

@@ -23,7 +23,7 @@ pub fn open(output: &mut Output, asked: &Open) -> Outcome<()> {
     }
     held.resize(answer.length as usize + asked.room as usize, 0);
     let owned = holding.create()?;
-    owned.commit(&Change { held: Some(&held), ledger: &[] })?;
+    owned.commit(&Change { held: Some(&held), ledger: &[] }).inspect_err(|_| owned.leave_no_lock())?;
     let (name, form) = (shown(&holding.name), frames::form_text(asked.form.width, asked.form.underflow));
     let (rows, columns, room) = (answer.rows, answer.columns, asked.room);
     let text = format!(

@@ -141,11 +141,8 @@ fn unfinished() -> (Folder, State) {
     let f = before("correct");
     let done = before_again("correct", &state(&f));
     done.done("correct a 5 5");
-    let at = (1..).find(|at| {
-        let _ = faulty(&f, "correct a 5 5", "after", *at);
-        f.has("a.redo")
-    });
-    assert!(at.is_some() && state(&f) != state(&done));
+    let at = (1..30).find(|at| faulty(&f, "correct a 5 5", "after", *at).is_none() || f.has("a.redo"));
+    assert!(at.is_some() && f.has("a.redo") && state(&f) != state(&done));
     (f, state(&done))
 }
 
@@ -201,6 +198,23 @@ fn a_damaged_record_is_an_error_and_nothing_is_deleted() {
     let ran = f.run("sweep . --day 2040-01-01 --delete");
     assert!(ran.status == Some(3) && ran.out.starts_with("failed "), "{ran:?}");
     assert_eq!((state(&f), f.get("a.redo").len()), (old, record.len() - 1));
+}
+
+#[test]
+fn a_purge_is_in_the_log_before_it_is_made_and_is_finished_by_the_next() {
+    let sweep = "sweep . --day 2031-11-03 --delete";
+    for fault in [KILLS, ERRORS].concat() {
+        for at in 1..40 {
+            let f = before("correct");
+            let Some(ran) = faulty(&f, sweep, fault, at) else { break };
+            let log = fs::read_to_string(f.join("quayrudder-purge.log")).unwrap_or_default();
+            let whole = f.has("a.held") && f.has("a.ledger");
+            assert!(whole || log.contains("Z day 2031-11-03 deleting ./a\n"), "{fault} at {at}: {ran:?}");
+            assert!(f.has("a.ledger") || !f.has("a.held"), "{fault} at {at}: {ran:?}");
+            assert_eq!(f.run(sweep).status, Some(0), "{fault} at {at}");
+            assert_eq!(state(&f), (None, None), "{fault} at {at}");
+        }
+    }
 }
 
 /// The calls of one run, without those that only say something.

@@ -4,7 +4,7 @@ use common::header::Header;
 use common::{command, folder, frame, Folder};
 use std::collections::HashSet;
 use std::fs::{self, File};
-use std::process::Stdio;
+use std::process::{Child, Stdio};
 use std::thread;
 use std::time::Duration;
 
@@ -50,15 +50,26 @@ impl Folder {
     }
 }
 
+/// The lock of holding `a`, held by this process.
+fn locked(f: &Folder) -> File {
+    let lock = File::options().create(true).append(true).open(f.join("a.lock")).unwrap();
+    lock.lock().unwrap();
+    lock
+}
+
+/// A process that wants to correct pixel 1.
+fn correcting(f: &Folder) -> Child {
+    let mut run = command();
+    run.args(["correct", "a", "1", "1"]).current_dir(f.path()).stdout(Stdio::piped()).stderr(Stdio::piped());
+    run.spawn().unwrap()
+}
+
 #[test]
 fn a_second_process_waits_and_says_so() {
     let f = folder();
     large(&f);
-    let lock = File::open(f.join("a.lock")).unwrap();
-    lock.lock().unwrap();
-    let mut run = command();
-    run.args(["correct", "a", "1", "1"]).current_dir(f.path()).stdout(Stdio::piped()).stderr(Stdio::piped());
-    let waiting = run.spawn().unwrap();
+    let lock = locked(&f);
+    let waiting = correcting(&f);
     thread::sleep(Duration::from_millis(900));
     assert_eq!(f.get("a.ledger").len(), 0);
     drop(lock);
@@ -81,11 +92,8 @@ fn questions_do_not_wait_for_each_other() {
 fn a_holding_purged_while_its_lock_was_waited_for_is_missing() {
     let f = folder();
     large(&f);
-    let lock = File::open(f.join("a.lock")).unwrap();
-    lock.lock().unwrap();
-    let mut run = command();
-    run.args(["correct", "a", "1", "1"]).current_dir(f.path()).stdout(Stdio::piped()).stderr(Stdio::piped());
-    let waiting = run.spawn().unwrap();
+    let lock = locked(&f);
+    let waiting = correcting(&f);
     thread::sleep(Duration::from_millis(200));
     for ending in ["held", "ledger", "lock"] {
         fs::remove_file(f.join(&format!("a.{ending}"))).unwrap();
@@ -94,4 +102,21 @@ fn a_holding_purged_while_its_lock_was_waited_for_is_missing() {
     let ran = common::ran(waiting.wait_with_output().unwrap());
     assert!(ran.status == Some(3) && ran.err.contains("a.ledger: cannot find it"), "{ran:?}");
     assert!(!f.has("a.lock") && !f.has("a.held") && !f.has("a.ledger"));
+}
+
+#[test]
+fn a_lock_file_that_was_replaced_is_not_the_lock() {
+    let f = folder();
+    large(&f);
+    let old = locked(&f);
+    let waiting = correcting(&f);
+    thread::sleep(Duration::from_millis(200));
+    fs::remove_file(f.join("a.lock")).unwrap();
+    let new = locked(&f);
+    drop(old);
+    thread::sleep(Duration::from_millis(200));
+    assert_eq!(f.get("a.ledger").len(), 0);
+    drop(new);
+    assert_eq!(waiting.wait_with_output().unwrap().status.code(), Some(0));
+    assert_eq!(f.get("a.ledger").len(), 16);
 }
