@@ -26,13 +26,28 @@ pub fn folder(path: &Path) -> &Path {
 
 /// Puts the parts, one behind the other, in the file's place: all of them or, where this fails, what was there.
 pub fn replace(path: &Path, parts: &[&[u8]]) -> Outcome<()> {
-    let fresh = with_ending(path, ".tmp");
-    let placed = write_synced(&fresh, path, parts)
-        .and_then(|()| fs::rename(&fresh, path).map_err(Failure::machine(path, "replace")));
-    if placed.is_err() {
-        let _ = fs::remove_file(&fresh);
-    }
-    placed
+    stage(path, parts)?;
+    put(path)
+}
+
+/// Where a file's new contents stand until they take its place.
+fn staged(path: &Path) -> PathBuf {
+    with_ending(path, ".tmp")
+}
+
+/// Writes and syncs a file's new contents beside it.
+pub fn stage(path: &Path, parts: &[&[u8]]) -> Outcome<()> {
+    write_synced(&staged(path), path, parts).inspect_err(|_| unstage(path))
+}
+
+/// Puts the contents written beside a file in its place.
+pub fn put(path: &Path) -> Outcome<()> {
+    fs::rename(staged(path), path).map_err(Failure::machine(path, "replace")).inspect_err(|_| unstage(path))
+}
+
+/// Removes the contents written beside a file, if there are any.
+pub fn unstage(path: &Path) {
+    let _ = fs::remove_file(staged(path));
 }
 
 /// Writes a file to its last byte on the disk, with the permissions of the one that it is to replace.

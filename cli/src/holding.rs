@@ -128,29 +128,42 @@ impl<'a> Deref for Owned<'a> {
 }
 
 impl Owned<'_> {
-    /// Makes the change, in both files or in neither.
+    /// Makes the change, in both files or in neither. Everything that takes room on the disk comes before the record has
+    /// its name.
     pub fn commit(&self, change: &Change) -> Outcome<()> {
         let holding = self.holding;
-        redo::record(&holding.redo, change).map_err(|failure| failure.so("The holding is as it was before."))?;
+        self.stage(change).and_then(|()| redo::record(&holding.redo, change)).map_err(|failure| {
+            files::unstage(&holding.held);
+            files::unstage(&holding.ledger);
+            failure.so("The holding is as it was before.")
+        })?;
         let recorded = "The change is recorded, and the next command on this holding finishes it.";
-        files::sync_folder_of(&holding.redo).and_then(|()| self.apply(change)).map_err(|failure| failure.so(recorded))
+        files::sync_folder_of(&holding.redo).and_then(|()| self.put(change)).map_err(|failure| failure.so(recorded))
     }
 
     /// Finishes the change that the record says.
     fn finish(&self) -> Outcome<()> {
         let bytes = files::read(&self.holding.redo)?;
         let change = redo::read(&self.holding.redo, &bytes)?;
-        files::sync_folder_of(&self.holding.redo)
-            .and_then(|()| self.apply(&change))
+        self.stage(&change)
+            .and_then(|()| files::sync_folder_of(&self.holding.redo))
+            .and_then(|()| self.put(&change))
             .map_err(|failure| failure.so("An earlier change is recorded and unfinished; nothing else was done."))
     }
 
-    fn apply(&self, change: &Change) -> Outcome<()> {
-        let holding = self.holding;
+    fn stage(&self, change: &Change) -> Outcome<()> {
         if let Some(held) = change.held {
-            files::replace(&holding.held, &[held])?;
+            files::stage(&self.holding.held, &[held])?;
         }
-        files::replace(&holding.ledger, &[change.ledger])?;
+        files::stage(&self.holding.ledger, &[change.ledger])
+    }
+
+    fn put(&self, change: &Change) -> Outcome<()> {
+        let holding = self.holding;
+        if change.held.is_some() {
+            files::put(&holding.held)?;
+        }
+        files::put(&holding.ledger)?;
         files::sync_folder_of(&holding.ledger)?;
         files::remove(&holding.redo)
     }

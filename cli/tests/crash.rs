@@ -233,11 +233,11 @@ fn calls(f: &Folder, words: &str) -> String {
 #[test]
 fn everything_is_synced_before_it_is_relied_on() {
     let f = before("correct");
-    let expected =
-        "create a.lock\ncreate a.redo.tmp\nwrite a.redo.tmp\nfsync a.redo.tmp\nrename a.redo\nfsync FOLDER\n\
-                    create a.held.tmp\nfchmod a.held.tmp\nwrite a.held.tmp\nfsync a.held.tmp\nrename a.held\n\
-                    create a.ledger.tmp\nfchmod a.ledger.tmp\nwrite a.ledger.tmp\nfsync a.ledger.tmp\nrename a.ledger\n\
-                    fsync FOLDER\nunlink a.redo";
+    let staged = |name: &str| format!("write {name}.tmp\nfsync {name}.tmp\n");
+    let fresh = |name: &str| format!("create {name}.tmp\nfchmod {name}.tmp\n") + &staged(name);
+    let record = "create a.redo.tmp\n".to_string() + &staged("a.redo") + "rename a.redo\nfsync FOLDER\n";
+    let placed = "rename a.held\nrename a.ledger\nfsync FOLDER\nunlink a.redo";
+    let expected = "create a.lock\n".to_string() + &fresh("a.held") + &fresh("a.ledger") + &record + placed;
     assert_eq!(calls(&f, "correct a 1 1"), expected);
 }
 

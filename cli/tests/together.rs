@@ -31,8 +31,7 @@ fn a_thousand_corrections_by_two_and_none_is_lost() {
         scope.spawn(|| technician(&f, 200_000));
     });
     let listing = f.done("list a");
-    let counts: HashSet<u32> =
-        listing.lines().filter(|line| line.contains(" correct ")).map(|line| last_number(line)).collect();
+    let counts: HashSet<u32> = listing.lines().filter(|line| line.contains(" correct ")).map(last_number).collect();
     let expected: HashSet<u32> = (100_000..100_500).chain(200_000..200_500).collect();
     assert_eq!(counts, expected);
     assert!(listing.ends_with("standing 1000\n"));
