@@ -26,6 +26,7 @@ pub enum Command {
     /// Say what frames are: format, size, form, counts and end, or why they are refused
     #[command(after_help = "Example:\n  quayrudder info lysozyme_01_0001.sfrm")]
     Info {
+        /// The frames
         #[arg(required = true, value_name = "FRAME")]
         frames: Vec<PathBuf>,
     },
@@ -46,6 +47,7 @@ pub enum Command {
     /// Correct the count of one pixel of a holding
     #[command(after_help = "Examples:\n  quayrudder correct lyso1 5,17 300\n  quayrudder correct lyso1 2577 300")]
     Correct {
+        /// The holding
         name: PathBuf,
         /// The pixel's number, from 0 row by row, or its ROW,COLUMN, both from 0
         #[arg(value_name = "PIXEL|ROW,COLUMN", value_parser = parse_place)]
@@ -56,26 +58,37 @@ pub enum Command {
     /// Keep a holding until this day
     #[command(after_help = "Example:\n  quayrudder keep lyso1 2031-11-02")]
     Keep {
+        /// The holding
         name: PathBuf,
+        /// The last day on which it must be kept
         #[arg(value_name = "YYYY-MM-DD", value_parser = parse_date)]
         date: Date,
     },
     /// Take back the last correction or keep date that stands
     #[command(after_help = "Example:\n  quayrudder withdraw lyso1")]
-    Withdraw { name: PathBuf },
+    Withdraw {
+        /// The holding
+        name: PathBuf,
+    },
     /// List a holding's ledger
     #[command(after_help = "Example:\n  quayrudder list lyso1")]
-    List { name: PathBuf },
+    List {
+        /// The holding
+        name: PathBuf,
+    },
     /// May a holding be purged on this day? Exit status 0 for yes, 1 for no
     #[command(after_help = "Example:\n  quayrudder may-purge lyso1 2031-11-03 && echo yes")]
     MayPurge {
+        /// The holding
         name: PathBuf,
+        /// The day to ask for
         #[arg(value_name = "YYYY-MM-DD", value_parser = parse_date)]
         day: Date,
     },
     /// Check that held frames stand by themselves and agree with their ledgers
     #[command(after_help = "Example:\n  quayrudder verify lyso1 lyso2")]
     Verify {
+        /// The holdings
         #[arg(required = true, value_name = "NAME")]
         names: Vec<PathBuf>,
     },
@@ -87,6 +100,7 @@ pub enum Command {
 
 #[derive(Args)]
 pub struct Expand {
+    /// The frame
     pub frame: PathBuf,
     /// The file to write; its ending says how: .npy, .raw or .pgm
     #[arg(short, long, value_name = "OUT")]
@@ -101,6 +115,7 @@ pub struct Expand {
 
 #[derive(Args)]
 pub struct View {
+    /// The frame
     pub frame: PathBuf,
     /// The picture to write, a .png
     #[arg(short, long, value_name = "OUT.png")]
@@ -140,6 +155,7 @@ pub struct Write {
 
 #[derive(Args)]
 pub struct Open {
+    /// The frame
     pub frame: PathBuf,
     /// Bytes per pixel, and +1 or +2 for the baseline subtracted with underflow entries of so many bytes
     #[arg(long, value_parser = parse_form)]
@@ -154,6 +170,7 @@ pub struct Open {
 
 #[derive(Args)]
 pub struct Sweep {
+    /// The folder to walk
     #[arg(value_name = "DIR")]
     pub folder: PathBuf,
     /// The day to ask for

@@ -48,6 +48,6 @@ fn unread(error: io::Error) -> Failure {
     match error.kind() {
         ErrorKind::BrokenPipe => Failure::Unread,
         _ => Failure::machine(Path::new("standard output"), "write")(error)
-            .so("What was asked is done; only the answer is lost."),
+            .so("Only the answer is lost: a change that was asked for is made."),
     }
 }

@@ -132,7 +132,8 @@ fn say_batch(
             (found, _) => found,
         };
         totals.add(&last);
-        output.say(&last.text(name), &last.value(name))?;
+        let said = output.say(&last.text(name), &last.value(name));
+        said.map_err(|failure| failure.so(format!("The sweep ended at {}.", shown(name))))?;
     }
     Ok(())
 }

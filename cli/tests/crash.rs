@@ -67,7 +67,7 @@ fn check(f: &Folder, words: &str, ran: &Ran, old: &State, new: &State) {
     assert!(found == *old || found == *new, "{words}: {ran:?}, then {next:?}");
     assert_eq!(next.status, if found.1.is_some() { Some(0) } else { Some(3) }, "{words}: {next:?}");
     assert!(!f.has("a.redo"), "{words}: {ran:?}");
-    if ran.status == Some(0) || ran.err.contains("finishes it") || ran.err.contains("is done") {
+    if ran.status == Some(0) || ran.err.contains("finishes it") || ran.err.contains("is made") {
         assert_eq!(found, *new, "{words}: {ran:?}");
     } else if ran.status == Some(3) {
         assert_eq!(found, *old, "{words}: {ran:?}");

@@ -3,6 +3,7 @@ mod common;
 use common::header::{Header, LENGTH};
 use common::{folder, frame, old_frame, plain_frame, Folder, OLD_ENTRY};
 use std::fs;
+use std::process::Stdio;
 
 /// The counts of holding `a`, as the held file expands.
 fn counts(f: &Folder) -> Vec<u32> {
@@ -208,4 +209,22 @@ fn permissions_stay() {
     fs::set_permissions(f.join("a.held"), fs::Permissions::from_mode(0o640)).unwrap();
     f.done("correct a 1 1");
     assert_eq!(fs::metadata(f.join("a.held")).unwrap().permissions().mode() & 0o777, 0o640);
+}
+
+#[test]
+fn an_answer_that_cannot_be_written_has_its_status() {
+    let f = folder();
+    f.hold("1", 0);
+    let run = |out: Stdio| {
+        let mut run = common::command();
+        common::ran(run.args(["correct", "a", "1", "1"]).current_dir(f.path()).stdout(out).output().unwrap())
+    };
+    let full = run(fs::File::options().write(true).open("/dev/full").unwrap().into());
+    let sentence = "standard output: cannot write it: No space left on device";
+    assert!(full.status == Some(3) && full.err.contains(sentence), "{full:?}");
+    let (reader, writer) = std::io::pipe().unwrap();
+    drop(reader);
+    let closed = run(writer.into());
+    assert_eq!((closed.status, closed.err.as_str()), (Some(3), ""));
+    assert_eq!(f.get("a.ledger").len(), 32);
 }

@@ -91,7 +91,7 @@ pub fn frame(header: Header, rest: &[u8]) -> Vec<u8> {
     [header.bytes(), rest.to_vec()].concat()
 }
 
-/// The example of the rules: reads as 35 332 70032 30, and its image and tables take 52 bytes.
+/// One row with entries in every table, which reads as 35 332 70032 30.
 pub fn tables_frame() -> Vec<u8> {
     let header = Header::new(1, 4).line(20, "NOVERFL:1 2 1").line(39, "NPIXELB:1 1");
     let padded = |entries: &[u8]| {
