@@ -1,10 +1,12 @@
 # Daily work. `make test` is the gate; the rest eases the way there.
 .PHONY: test toolchain check must-fail fmt dev skeletons paths staticlib bench bench-docs clean
 .PHONY: deps-rust deps-peers deps-bench second-reader compare compare-short soak faults peers compare-frames
+.PHONY: deps cli cli-test demo
 
 # What the gate runs after the proofs, in this order: targets of this file, one more line each.
 AFTER_PROOFS += staticlib
 AFTER_PROOFS += compare-short
+AFTER_PROOFS += cli-test
 
 # The whole gate: every crate proved from nothing, every must-fail edit refused, every program's output compared; then the rest
 # on what was proved. The last line is the prover's verdict.
@@ -99,6 +101,24 @@ peers: deps-peers second-reader
 # Every file in frames/ read by the library, by the second reader and by FabIO.
 compare-frames: deps-peers second-reader
 	$(PYTHON) tests/peers/compare_frames.py frames
+
+# The command quayrudder (cli), from Debian's crates over the static library.
+CLI := target/cli/release/quayrudder
+DEBIAN := gcc $(patsubst %,librust-%-dev,chrono clap crc32fast image indicatif rayon serde-json tempfile walkdir)
+
+deps: deps-rust
+	@tools/deps $(DEBIAN)
+
+cli: deps staticlib
+	cd cli && cargo build -q --release --offline --bins --examples
+
+# Runs the command in every way: each refusal, the machine failing at every step, two processes at one holding.
+cli-test: deps staticlib
+	cd cli && cargo test -q --release --offline
+
+# The main job on an example frame: README's first command.
+demo: cli
+	@cli/demo.sh $(CLI) target/demo
 
 clean:
 	rm -rf target

@@ -42,6 +42,41 @@ pub struct LedgerAnswer {
     pub lines: u64,
 }
 
+/// What an accepted header says; where it is refused, every field but `refusal`, `place` and `column` is 0.
+#[repr(C)]
+#[derive(Clone, Copy, Debug, PartialEq, Eq)]
+pub struct HeaderAnswer {
+    pub refusal: u32,
+    pub place: u32,
+    pub column: u32,
+    /// 86 or 100.
+    pub format: u32,
+    /// The header's length: the image starts there.
+    pub start: u32,
+    pub rows: u32,
+    pub columns: u32,
+    /// Bytes per pixel.
+    pub width: u32,
+    /// FORMAT 86's overflow entries.
+    pub entries: u32,
+    /// 1 where the baseline is in use, that is, the underflow count is not -1.
+    pub subtracted: u32,
+    /// Bytes of an underflow entry.
+    pub entry: u32,
+    pub baseline: u32,
+    pub underflows: u32,
+    pub two: u32,
+    pub four: u32,
+}
+
+/// `length` bytes at the end of the lent buffer are the listing; `too_short` is 1 where the buffer is too short for it.
+#[repr(C)]
+#[derive(Clone, Copy, Debug, PartialEq, Eq)]
+pub struct ListAnswer {
+    pub too_short: u32,
+    pub length: u64,
+}
+
 /// A pixel width of 1, 2 or 4 bytes, and 0 for underflow kind none or the bytes of an underflow entry.
 #[derive(Clone, Copy, Debug, PartialEq, Eq)]
 pub struct Form {
@@ -57,7 +92,7 @@ pub struct Date {
 }
 
 mod c {
-    use super::{LedgerAnswer, OpenAnswer, ReadAnswer, WriteAnswer};
+    use super::{HeaderAnswer, LedgerAnswer, ListAnswer, OpenAnswer, ReadAnswer, WriteAnswer};
 
     #[rustfmt::skip]
     extern "C" {
@@ -83,6 +118,8 @@ mod c {
         pub fn qr_may_purge(
             ledger: *const u8, ledger_len: usize, lines: u64, year: u32, month: u32, day: u32,
         ) -> u32;
+        pub fn qr_header(frame: *const u8, frame_len: usize) -> HeaderAnswer;
+        pub fn qr_list(ledger: *const u8, ledger_len: usize, out: *mut u8, out_len: usize) -> ListAnswer;
     }
 }
 
@@ -129,4 +166,20 @@ pub fn withdraw(held: &mut [u8], ledger: &mut [u8], lines: u64) -> LedgerAnswer 
 /// May the frame be purged on this day: 0, or the refusal.
 pub fn may_purge(ledger: &[u8], lines: u64, day: Date) -> u32 {
     unsafe { c::qr_may_purge(ledger.as_ptr(), ledger.len(), lines, day.year, day.month, day.day) }
+}
+
+/// What the header of a frame says.
+pub fn header(frame: &[u8]) -> HeaderAnswer {
+    unsafe { c::qr_header(frame.as_ptr(), frame.len()) }
+}
+
+/// The bytes that the listing of a ledger of so many bytes needs at most.
+pub fn list_room(ledger_len: usize) -> usize {
+    32 + 80 * (ledger_len / 16)
+}
+
+/// The listing of a ledger, as the last bytes of `out`, which has at least `list_room` bytes.
+pub fn list(ledger: &[u8], out: &mut [u8]) -> ListAnswer {
+    let n = out.len();
+    unsafe { c::qr_list(ledger.as_ptr(), ledger.len(), out.as_mut_ptr(), n) }
 }

@@ -1,0 +1,216 @@
+//! The command line.
+use clap::{Args, Parser, Subcommand};
+use quayrudder::{Date, Form};
+use std::path::PathBuf;
+
+const STATUS: &str = "\
+Exit status:
+  0  yes, or done
+  1  no, or refused: the sentence says why and what to do
+  2  bad usage
+  3  the machine failed: a file is missing or cannot be read, written or synced";
+
+/// Reads, holds, corrects and purges the X-ray frames of a cold archive
+#[derive(Parser)]
+#[command(name = "quayrudder", version, after_help = STATUS, subcommand_required = true, arg_required_else_help = true)]
+pub struct Cli {
+    /// Answer in JSON, one object a line
+    #[arg(long, global = true)]
+    pub json: bool,
+    #[command(subcommand)]
+    pub command: Command,
+}
+
+#[derive(Subcommand)]
+pub enum Command {
+    /// Say what frames are: format, size, form, counts and end, or why they are refused
+    #[command(after_help = "Example:\n  quayrudder info lysozyme_01_0001.sfrm")]
+    Info {
+        /// The frames
+        #[arg(required = true, value_name = "FRAME")]
+        frames: Vec<PathBuf>,
+    },
+    /// Write a frame's counts as .npy, .raw (32 bits, least significant byte first) or .pgm (16 bits)
+    #[command(after_help = "Example:\n  quayrudder expand lysozyme_01_0001.sfrm -o counts.npy")]
+    Expand(Expand),
+    /// Make a picture of a frame to look at
+    #[command(after_help = "Example:\n  quayrudder view lysozyme_01_0001.sfrm -o look.png --log")]
+    View(View),
+    /// Write a frame of FORMAT 100 from a header, counts and a form
+    #[command(
+        after_help = "Example:\n  quayrudder write --header old.sfrm --pixels counts.npy --form 1+1 -o new.sfrm"
+    )]
+    Write(Write),
+    /// Open a frame: make NAME.held and an empty NAME.ledger
+    #[command(after_help = "Example:\n  quayrudder open lysozyme_01_0001.sfrm --form 1+2 --room 4096 -o lyso1")]
+    Open(Open),
+    /// Correct the count of one pixel of a holding
+    #[command(after_help = "Examples:\n  quayrudder correct lyso1 5,17 300\n  quayrudder correct lyso1 2577 300")]
+    Correct {
+        /// The holding
+        name: PathBuf,
+        /// The pixel's number, from 0 row by row, or its ROW,COLUMN, both from 0
+        #[arg(value_name = "PIXEL|ROW,COLUMN", value_parser = parse_place)]
+        pixel: Place,
+        /// The new count, 0 to 4294967295
+        count: u32,
+    },
+    /// Keep a holding until this day
+    #[command(after_help = "Example:\n  quayrudder keep lyso1 2031-11-02")]
+    Keep {
+        /// The holding
+        name: PathBuf,
+        /// The last day on which it must be kept
+        #[arg(value_name = "YYYY-MM-DD", value_parser = parse_date)]
+        date: Date,
+    },
+    /// Take back the last correction or keep date that stands
+    #[command(after_help = "Example:\n  quayrudder withdraw lyso1")]
+    Withdraw {
+        /// The holding
+        name: PathBuf,
+    },
+    /// List a holding's ledger
+    #[command(after_help = "Example:\n  quayrudder list lyso1")]
+    List {
+        /// The holding
+        name: PathBuf,
+    },
+    /// May a holding be purged on this day? Exit status 0 for yes, 1 for no
+    #[command(after_help = "Example:\n  quayrudder may-purge lyso1 2031-11-03 && echo yes")]
+    MayPurge {
+        /// The holding
+        name: PathBuf,
+        /// The day to ask for
+        #[arg(value_name = "YYYY-MM-DD", value_parser = parse_date)]
+        day: Date,
+    },
+    /// Check that held frames stand by themselves and agree with their ledgers
+    #[command(after_help = "Example:\n  quayrudder verify lyso1 lyso2")]
+    Verify {
+        /// The holdings
+        #[arg(required = true, value_name = "NAME")]
+        names: Vec<PathBuf>,
+    },
+    /// Ask every ledger below a folder whether its holding may be purged; delete only with --delete
+    #[command(after_help = "Examples:\n  quayrudder sweep archive --day 2031-11-03\n  \
+                            quayrudder sweep archive --day 2031-11-03 --delete --log purge.log")]
+    Sweep(Sweep),
+}
+
+#[derive(Args)]
+pub struct Expand {
+    /// The frame
+    pub frame: PathBuf,
+    /// The file to write; its ending says how: .npy, .raw or .pgm
+    #[arg(short, long, value_name = "OUT")]
+    pub output: PathBuf,
+    /// Write counts above 65535 as 65535 (.pgm)
+    #[arg(long)]
+    pub clip: bool,
+    /// Replace the file where it exists
+    #[arg(long)]
+    pub force: bool,
+}
+
+#[derive(Args)]
+pub struct View {
+    /// The frame
+    pub frame: PathBuf,
+    /// The picture to write, a .png
+    #[arg(short, long, value_name = "OUT.png")]
+    pub output: PathBuf,
+    /// The count shown black [default: that of the darkest 0.5 %]
+    #[arg(long)]
+    pub min: Option<u32>,
+    /// The count shown white [default: that of the brightest 0.5 %]
+    #[arg(long)]
+    pub max: Option<u32>,
+    /// A logarithmic grey scale
+    #[arg(long)]
+    pub log: bool,
+    /// Replace the file where it exists
+    #[arg(long)]
+    pub force: bool,
+}
+
+#[derive(Args)]
+pub struct Write {
+    /// A file that starts with an accepted FORMAT 100 header: a frame will do
+    #[arg(long, value_name = "FILE")]
+    pub header: PathBuf,
+    /// The counts: .npy of whole numbers, or .raw (32 bits, least significant byte first)
+    #[arg(long, value_name = "FILE")]
+    pub pixels: PathBuf,
+    /// Bytes per pixel, and +1 or +2 for the baseline subtracted with underflow entries of so many bytes
+    #[arg(long, value_parser = parse_form)]
+    pub form: Form,
+    /// The frame to write
+    #[arg(short, long, value_name = "OUT")]
+    pub output: PathBuf,
+    /// Replace the file where it exists
+    #[arg(long)]
+    pub force: bool,
+}
+
+#[derive(Args)]
+pub struct Open {
+    /// The frame
+    pub frame: PathBuf,
+    /// Bytes per pixel, and +1 or +2 for the baseline subtracted with underflow entries of so many bytes
+    #[arg(long, value_parser = parse_form)]
+    pub form: Form,
+    /// Bytes for the frame to grow by: a correction takes at most 48
+    #[arg(long, value_name = "BYTES", default_value_t = 4096)]
+    pub room: u32,
+    /// The name of the holding
+    #[arg(short, long, value_name = "NAME")]
+    pub output: PathBuf,
+}
+
+#[derive(Args)]
+pub struct Sweep {
+    /// The folder to walk
+    #[arg(value_name = "DIR")]
+    pub folder: PathBuf,
+    /// The day to ask for
+    #[arg(long, value_name = "YYYY-MM-DD", value_parser = parse_date)]
+    pub day: Date,
+    /// Delete each holding that may be purged, asked again just before
+    #[arg(long)]
+    pub delete: bool,
+    /// The log of deletions [default: DIR/quayrudder-purge.log]
+    #[arg(long, value_name = "FILE")]
+    pub log: Option<PathBuf>,
+}
+
+#[derive(Clone, Copy, Debug, PartialEq, Eq)]
+pub enum Place {
+    Pixel(u64),
+    At { row: u64, column: u64 },
+}
+
+/// The fixed form of a date. Whether there is such a day is for the library to say.
+fn parse_date(text: &str) -> Result<Date, String> {
+    let shape: String = text.chars().map(|c| if c.is_ascii_digit() { '0' } else { c }).collect();
+    if shape != "0000-00-00" {
+        return Err("a date is written YYYY-MM-DD, for example 2031-11-02 for 2 November 2031".into());
+    }
+    let number = |from: usize, to: usize| text[from..to].parse().map_err(|_| "no number".to_string());
+    Ok(Date { year: number(0, 4)?, month: number(5, 7)?, day: number(8, 10)? })
+}
+
+/// `2`, or `1+2`. Whether there is such a form is for the library to say.
+fn parse_form(text: &str) -> Result<Form, String> {
+    let (width, underflow) = text.split_once('+').unwrap_or((text, "0"));
+    let number = |digits: &str| digits.parse().map_err(|_| "a form is written like 2 or 1+2".to_string());
+    Ok(Form { width: number(width)?, underflow: number(underflow)? })
+}
+
+fn parse_place(text: &str) -> Result<Place, String> {
+    let number = |digits: &str| digits.parse().map_err(|_| "a pixel is written like 2577 or, by row and column, 5,17");
+    match text.split_once(',') {
+        Some((row, column)) => Ok(Place::At { row: number(row)?, column: number(column)? }),
+        None => Ok(Place::Pixel(number(text)?)),
+    }
+}

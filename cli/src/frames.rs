@@ -1,0 +1,201 @@
+//! The commands on frames: info, expand, view, write.
+use crate::args::{Expand, View, Write};
+use crate::failure::{shown, Failure, Outcome, Refused};
+use crate::files;
+use crate::output::Output;
+use crate::pixels::{self, Counts, Given};
+use quayrudder::{Form, HeaderAnswer};
+use serde_json::{json, Value};
+use std::path::{Path, PathBuf};
+
+/// A frame that the library accepts.
+struct Frame {
+    header: HeaderAnswer,
+    counts: Counts,
+    length: u64,
+    end: u64,
+}
+
+/// An accepted header, or its refusal.
+pub fn header(file: &Path, bytes: &[u8]) -> Outcome<HeaderAnswer> {
+    let header = quayrudder::header(bytes);
+    match header.refusal {
+        0 => Ok(header),
+        number => Err(refused(file, bytes, number, header.place, header.column)),
+    }
+}
+
+/// A refusal with what the file has at its place.
+pub fn refused(file: &Path, bytes: &[u8], number: u32, place: u32, column: u32) -> Failure {
+    let note = match number {
+        3 => format!("header line {place} has `{}`", line_text(bytes, place as usize)),
+        13 => format!("entry {place}, counted from 0"),
+        _ => String::new(),
+    };
+    Failure::Refused(Refused { file: file.into(), number, place, column, note })
+}
+
+fn line_text(bytes: &[u8], line: usize) -> String {
+    let text = bytes.get(80 * line..).unwrap_or_default();
+    String::from_utf8_lossy(&text[..text.len().min(80)]).trim_end().escape_debug().to_string()
+}
+
+/// The pixels that a header speaks of.
+pub fn pixel_count(header: &HeaderAnswer) -> usize {
+    header.rows as usize * header.columns as usize
+}
+
+/// As many bytes as a frame takes at most: nine for each pixel of one byte with an entry in each table, and three paddings.
+pub fn most_bytes(header: &HeaderAnswer) -> usize {
+    header.start as usize + 9 * pixel_count(header) + 48
+}
+
+fn read(file: &Path) -> Outcome<Frame> {
+    let bytes = files::read(file)?;
+    let header = header(file, &bytes)?;
+    let mut pixels = vec![0; pixel_count(&header)];
+    let answer = quayrudder::read(&bytes, &mut pixels);
+    if answer.refusal != 0 {
+        return Err(refused(file, &bytes, answer.refusal, answer.place, answer.column));
+    }
+    let counts = Counts { rows: answer.rows, columns: answer.columns, pixels };
+    Ok(Frame { header, counts, length: bytes.len() as u64, end: answer.end })
+}
+
+pub fn info(output: &mut Output, frames: &[PathBuf]) -> Outcome<()> {
+    for file in frames {
+        match read(file) {
+            Ok(frame) => output.say(&info_text(file, &frame), &info_value(file, &frame))?,
+            Err(failure) => output.failed(&failure)?,
+        }
+    }
+    Ok(())
+}
+
+/// A form as it is asked for: `2`, or `1+2`.
+pub fn form_text(width: u32, underflow: u32) -> String {
+    match underflow {
+        0 => width.to_string(),
+        entry => format!("{width}+{entry}"),
+    }
+}
+
+fn info_text(file: &Path, frame: &Frame) -> String {
+    let h = &frame.header;
+    let baseline = match h.subtracted {
+        0 => "no baseline".to_string(),
+        _ => format!("baseline {} subtracted", h.baseline),
+    };
+    let (form, entries) = match h.format {
+        86 => (format!("{} bytes per pixel", h.width), format!("overflow {}", h.entries)),
+        _ => (
+            format!("form {}, {baseline}", form_text(h.width, h.entry)),
+            format!("underflow {}, two-byte {}, four-byte {}", h.underflows, h.two, h.four),
+        ),
+    };
+    let name = shown(file);
+    format!(
+        "{name}: FORMAT {}, {} rows, {} columns, {form}\n  entries: {entries}\n  header {} bytes, frame ends at byte {} of {}",
+        h.format, h.rows, h.columns, h.start, frame.end, frame.length,
+    )
+}
+
+fn info_value(file: &Path, frame: &Frame) -> Value {
+    let h = &frame.header;
+    json!({
+        "file": shown(file), "format": h.format, "rows": h.rows, "columns": h.columns,
+        "width": h.width, "underflow_width": h.entry, "baseline_subtracted": h.subtracted == 1, "baseline": h.baseline,
+        "overflow_entries": h.entries, "underflow_entries": h.underflows,
+        "two_byte_entries": h.two, "four_byte_entries": h.four,
+        "header_bytes": h.start, "end": frame.end, "bytes": frame.length,
+    })
+}
+
+fn ending(path: &Path) -> &str {
+    path.extension().and_then(|ending| ending.to_str()).unwrap_or_default()
+}
+
+pub fn expand(output: &mut Output, asked: &Expand) -> Outcome<()> {
+    let ending = ending(&asked.output);
+    if !["npy", "raw", "pgm"].contains(&ending) {
+        let why = format!("`{}` must end in .npy, .raw or .pgm", shown(&asked.output));
+        return Err(Failure::Usage(why));
+    }
+    let counts = read(&asked.frame)?.counts;
+    let bytes = match ending {
+        "npy" => pixels::npy(&counts),
+        "raw" => pixels::raw(&counts.pixels),
+        _ => pixels::pgm(&asked.output, &counts, asked.clip)?,
+    };
+    files::output(&asked.output, &bytes, asked.force)?;
+    let (rows, columns) = (counts.rows, counts.columns);
+    let text = format!("{}: {rows} rows, {columns} columns", shown(&asked.output));
+    output.say(&text, &json!({"file": shown(&asked.output), "rows": rows, "columns": columns}))
+}
+
+pub fn view(output: &mut Output, asked: &View) -> Outcome<()> {
+    if ending(&asked.output) != "png" {
+        return Err(Failure::Usage(format!("`{}` must end in .png", shown(&asked.output))));
+    }
+    if asked.min.zip(asked.max).is_some_and(|(min, max)| min >= max) {
+        return Err(Failure::Usage("--min must be below --max".into()));
+    }
+    let counts = read(&asked.frame)?.counts;
+    let (black, white) = pixels::limits(&counts.pixels, asked.min, asked.max);
+    let picture = pixels::png(&asked.output, &counts, (black, white), asked.log)?;
+    files::output(&asked.output, &picture, asked.force)?;
+    let name = shown(&asked.output);
+    let text = format!("{name}: {} x {} pixels, black {black}, white {white}", counts.columns, counts.rows);
+    let value = json!({
+        "file": name, "width": counts.columns, "height": counts.rows, "black": black, "white": white, "log": asked.log,
+    });
+    output.say(&text, &value)
+}
+
+pub fn write(output: &mut Output, asked: &Write) -> Outcome<()> {
+    let bytes = files::read(&asked.header)?;
+    let header = header(&asked.header, &bytes)?;
+    let given = given(&asked.pixels)?;
+    must_fit(&asked.pixels, &given, &header)?;
+    let mut out = vec![0; most_bytes(&header)];
+    let answer = quayrudder::write(&bytes, &given.pixels, asked.form, &mut out);
+    match answer.refusal {
+        0 => {}
+        10 => return Err(Failure::refused(&asked.pixels, 10)),
+        number => return Err(refused(&asked.header, &bytes, number, answer.place, answer.column)),
+    }
+    files::output(&asked.output, &out[..answer.length as usize], asked.force)?;
+    let (name, Form { width, underflow }) = (shown(&asked.output), asked.form);
+    let form = form_text(width, underflow);
+    let text =
+        format!("{name}: {} rows, {} columns, form {form}, {} bytes", header.rows, header.columns, answer.length);
+    let value = json!({
+        "file": name, "rows": header.rows, "columns": header.columns, "width": width, "underflow_width": underflow,
+        "bytes": answer.length,
+    });
+    output.say(&text, &value)
+}
+
+fn given(file: &Path) -> Outcome<Given> {
+    match ending(file) {
+        "npy" => pixels::from_npy(file, &files::read(file)?),
+        "raw" => pixels::from_raw(file, &files::read(file)?),
+        _ => Err(Failure::Usage(format!("`{}` must end in .npy or .raw", shown(file)))),
+    }
+}
+
+/// Counts of another shape, or more of them, are a mistake. Too few are the library's refusal 10.
+fn must_fit(file: &Path, given: &Given, header: &HeaderAnswer) -> Outcome<()> {
+    let (rows, columns) = (u64::from(header.rows), u64::from(header.columns));
+    match given.shape {
+        Some(shape) if shape != (rows, columns) => {
+            let why = format!("has {} rows and {} columns, and the header says {rows} and {columns}", shape.0, shape.1);
+            Err(Failure::declined(file, why))
+        }
+        _ if given.pixels.len() as u64 > rows * columns => {
+            let why = format!("has {} counts, and the header says {rows} rows of {columns}", given.pixels.len());
+            Err(Failure::declined(file, why))
+        }
+        _ => Ok(()),
+    }
+}

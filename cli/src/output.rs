@@ -1,0 +1,53 @@
+//! Where answers go: a text or one JSON object a line on standard output, failures in sentences on standard error.
+use crate::failure::{Failure, Outcome, DONE};
+use serde_json::Value;
+use std::io::{self, ErrorKind, Write};
+use std::path::Path;
+
+pub struct Output {
+    json: bool,
+    worst: u8,
+}
+
+impl Output {
+    pub fn new(json: bool) -> Output {
+        Output { json, worst: DONE }
+    }
+
+    /// Says one answer. Text and value say the same.
+    pub fn say(&mut self, text: &str, value: &Value) -> Outcome<()> {
+        let line = if self.json { value.to_string() } else { text.trim_end().to_string() };
+        let mut out = io::stdout().lock();
+        writeln!(out, "{line}").and_then(|()| out.flush()).map_err(unread)
+    }
+
+    /// Says why something was not done, and keeps its exit status.
+    pub fn failed(&mut self, failure: &Failure) -> Outcome<()> {
+        self.status(failure.status());
+        match failure {
+            Failure::Unread => Ok(()),
+            _ if self.json => self.say("", &failure.json()),
+            _ => {
+                eprintln!("quayrudder: {failure}");
+                Ok(())
+            }
+        }
+    }
+
+    /// The worst status met is the command's.
+    pub fn status(&mut self, status: u8) {
+        self.worst = self.worst.max(status);
+    }
+
+    pub fn worst(&self) -> u8 {
+        self.worst
+    }
+}
+
+fn unread(error: io::Error) -> Failure {
+    match error.kind() {
+        ErrorKind::BrokenPipe => Failure::Unread,
+        _ => Failure::machine(Path::new("standard output"), "write")(error)
+            .so("Only the answer is lost: a change that was asked for is made."),
+    }
+}

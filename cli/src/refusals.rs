@@ -1,0 +1,49 @@
+//! What each refusal of the library means and what to do about it: the one place for these sentences.
+
+pub struct Sentence {
+    pub meaning: &'static str,
+    pub advice: &'static str,
+}
+
+const fn say(meaning: &'static str, advice: &'static str) -> Sentence {
+    Sentence { meaning, advice }
+}
+
+#[rustfmt::skip]
+const SENTENCES: [Sentence; 27] = [
+    say("the bytes end within the header", "Compare the file's size with its copy: it is cut short, or it is no frame."),
+    say("a name of header lines 0 to 2 is wrong", "Check that this is a Bruker frame: it starts with `FORMAT :`."),
+    say("a header field is missing or is no number of one to ten digits", "Compare the header line with another frame of the series."),
+    say("FORMAT is neither 86 nor 100", "Only frames of these two formats can be read: look at header line 0."),
+    say("VERSION is not one of 1 to 17, or is 6", "Look at header line 1."),
+    say("HDRBLKS is not 10 to 64, or for FORMAT 86 no multiple of 5", "Look at header line 2."),
+    say("a needed header line has another name or ends past the header", "Look at header lines 20, 39, 40, 41, 58 and 79: the header has lost or gained bytes, or is too short."),
+    say("a pixel width, the rows, the columns or the baseline is out of range", "Look at header lines 39, 40, 41 and 79."),
+    say("LINEAR is not 1 and 0: the counts are scaled", "Scaled frames are not read: look at header line 58."),
+    say("there are fewer counts than the header has pixels", "Give as many counts as the header's rows times columns."),
+    say("the bytes end before the image or a table does", "Compare the file's size with its copy: it is cut short."),
+    say("the padding after a table is not zero", "The tables are damaged, or NOVERFL (line 20) does not fit them: take another copy of the frame."),
+    say("an overflow entry is malformed, belongs to no marked pixel or is a second one", "The overflow table is damaged: take another copy of the frame."),
+    say("the tables have more or fewer entries than the image calls for", "Compare NOVERFL (line 20) with the image: take another copy of the frame."),
+    say("a count and the baseline are above 4,294,967,295 together", "Look at the baseline in header line 79."),
+    say("this form cannot be had for this frame", "Ask for 1, 2 or 4, alone or with +1 or +2 (--form 1+2). FORMAT 86 is only read, and +1 and +2 need a baseline in header line 79."),
+    say("an underflow entry is too large for one byte", "Use underflow entries of two bytes: open or write the frame with a form that ends in +2."),
+    say("the held file has no room for the longer frame", "Open the frame again under another name with a larger --room, and make the standing corrections there."),
+    say("the held file is no frame as the writer makes it", "It was damaged or changed by hand: restore the holding from its copy."),
+    say("the ledger is malformed", "It was damaged, cut short or changed by hand: restore the holding from its copy."),
+    say("the ledger is full", "Lend the ledger more bytes."),
+    say("nothing stands that could be withdrawn", "Look at the lines with `quayrudder list`."),
+    say("the pixel is not the count that its ledger line says", "Held file and ledger are not of the same state: restore the holding from its copy."),
+    say("the frame has no such pixel", "Pixels are numbered from 0, row by row; ROW,COLUMN both start at 0. `quayrudder info` shows rows and columns."),
+    say("this is no calendar date", "Dates are days of the Gregorian calendar in the years 0001 to 4095, written YYYY-MM-DD."),
+    say("no keep line stands, so a purge is not allowed", "Set a date with `quayrudder keep NAME YYYY-MM-DD`."),
+    say("the keep date is not before the day asked", "Ask again for a day after the keep date."),
+];
+
+const UNKNOWN: Sentence =
+    say("the library gives a number that this command does not know", "Build command and library of the same state.");
+
+pub fn sentence(number: u32) -> &'static Sentence {
+    let place = (number as usize).wrapping_sub(1);
+    SENTENCES.get(place).unwrap_or(&UNKNOWN)
+}

@@ -1,0 +1,121 @@
+//! Several processes at one holding.
+mod common;
+use common::header::Header;
+use common::{command, folder, frame, Folder};
+use std::collections::HashSet;
+use std::fs::{self, File};
+use std::process::{Child, Stdio};
+use std::thread;
+use std::time::Duration;
+
+/// 32 rows of 32 pixels, with room for every correction.
+fn large(f: &Folder) {
+    f.put("a.sfrm", frame(Header::new(32, 32), &[50; 1024]));
+    f.done("open a.sfrm --form 1+2 --room 65536 -o a");
+}
+
+/// 500 corrections by one process after the other.
+fn technician(f: &Folder, first: u32) {
+    for step in 0..500 {
+        let (pixel, count) = ((first + step) % 1024, first + step);
+        f.run_quietly(&format!("correct a {pixel} {count}"));
+    }
+}
+
+#[test]
+fn a_thousand_corrections_by_two_and_none_is_lost() {
+    let f = folder();
+    large(&f);
+    thread::scope(|scope| {
+        scope.spawn(|| technician(&f, 100_000));
+        scope.spawn(|| technician(&f, 200_000));
+    });
+    let listing = f.done("list a");
+    let counts: HashSet<u32> = listing.lines().filter(|line| line.contains(" correct ")).map(last_number).collect();
+    let expected: HashSet<u32> = (100_000..100_500).chain(200_000..200_500).collect();
+    assert_eq!(counts, expected);
+    assert!(listing.ends_with("standing 1000\n"));
+    assert_eq!(f.done("verify a"), "a: held frame and ledger agree, 1000 lines, 1000 standing\n");
+}
+
+fn last_number(line: &str) -> u32 {
+    line.rsplit(' ').next().unwrap().parse().unwrap()
+}
+
+impl Folder {
+    fn run_quietly(&self, words: &str) {
+        let ran = self.run(words);
+        assert_eq!(ran.status, Some(0), "{words}: {ran:?}");
+    }
+}
+
+/// The lock of holding `a`, held by this process.
+fn locked(f: &Folder) -> File {
+    let lock = File::options().create(true).append(true).open(f.join("a.lock")).unwrap();
+    lock.lock().unwrap();
+    lock
+}
+
+/// A process that wants to correct pixel 1.
+fn correcting(f: &Folder) -> Child {
+    let mut run = command();
+    run.args(["correct", "a", "1", "1"]).current_dir(f.path()).stdout(Stdio::piped()).stderr(Stdio::piped());
+    run.spawn().unwrap()
+}
+
+#[test]
+fn a_second_process_waits_and_says_so() {
+    let f = folder();
+    large(&f);
+    let lock = locked(&f);
+    let waiting = correcting(&f);
+    thread::sleep(Duration::from_millis(900));
+    assert_eq!(f.get("a.ledger").len(), 0);
+    drop(lock);
+    let ran = common::ran(waiting.wait_with_output().unwrap());
+    assert_eq!(ran.status, Some(0));
+    assert_eq!(ran.err, "quayrudder: waiting for a.lock: another process is at work on this holding\n");
+    assert_eq!(f.get("a.ledger").len(), 16);
+}
+
+#[test]
+fn questions_do_not_wait_for_each_other() {
+    let f = folder();
+    large(&f);
+    let lock = File::open(f.join("a.lock")).unwrap();
+    lock.lock_shared().unwrap();
+    assert_eq!(f.done("list a"), "standing 0\n");
+}
+
+#[test]
+fn a_holding_purged_while_its_lock_was_waited_for_is_missing() {
+    let f = folder();
+    large(&f);
+    let lock = locked(&f);
+    let waiting = correcting(&f);
+    thread::sleep(Duration::from_millis(200));
+    for ending in ["held", "ledger", "lock"] {
+        fs::remove_file(f.join(&format!("a.{ending}"))).unwrap();
+    }
+    drop(lock);
+    let ran = common::ran(waiting.wait_with_output().unwrap());
+    assert!(ran.status == Some(3) && ran.err.contains("a.ledger: cannot find it"), "{ran:?}");
+    assert!(!f.has("a.lock") && !f.has("a.held") && !f.has("a.ledger"));
+}
+
+#[test]
+fn a_lock_file_that_was_replaced_is_not_the_lock() {
+    let f = folder();
+    large(&f);
+    let old = locked(&f);
+    let waiting = correcting(&f);
+    thread::sleep(Duration::from_millis(200));
+    fs::remove_file(f.join("a.lock")).unwrap();
+    let new = locked(&f);
+    drop(old);
+    thread::sleep(Duration::from_millis(200));
+    assert_eq!(f.get("a.ledger").len(), 0);
+    drop(new);
+    assert_eq!(waiting.wait_with_output().unwrap().status.code(), Some(0));
+    assert_eq!(f.get("a.ledger").len(), 16);
+}
