@@ -10,10 +10,13 @@ pub enum Call {
     Keep,
     Withdraw,
     Purge,
+    Header,
+    Listing,
+    /// A list of calls.
     List,
 }
 
-pub const CALLS: [(Call, &str); 8] = [
+pub const CALLS: [(Call, &str); 10] = [
     (Call::Read, "read"),
     (Call::Write, "write"),
     (Call::Open, "open"),
@@ -21,6 +24,8 @@ pub const CALLS: [(Call, &str); 8] = [
     (Call::Keep, "keep"),
     (Call::Withdraw, "withdraw"),
     (Call::Purge, "purge"),
+    (Call::Header, "header"),
+    (Call::Listing, "listing"),
     (Call::List, "list"),
 ];
 

@@ -3,6 +3,7 @@ use crate::case::{Call, Case, Mutation, Step};
 use crate::fault::Fault;
 use crate::ledger::{self, Date, Entry};
 use crate::library;
+use crate::listing;
 use crate::model::Model;
 use crate::{frame, held};
 
@@ -62,6 +63,8 @@ fn library_step(fault: Fault, step: &Step, out: &mut Outcome) -> u64 {
         Call::Keep => library::keep(ledger, case.lines, step.date),
         Call::Withdraw => library::withdraw(held, ledger, case.lines),
         Call::Purge => library::may_purge(ledger, case.lines, step.date),
+        Call::Header => library::header(&case.frame),
+        Call::Listing => library::list(ledger, held),
     };
     if matches!(step.call, Call::Correct | Call::Keep | Call::Withdraw) {
         case.lines = answer[1];
@@ -122,6 +125,40 @@ fn write_answer(case: &mut Case) -> Vec<u64> {
     answer
 }
 
+fn header_answer(frame: &[u8]) -> Vec<u64> {
+    let found = frame::read_header(frame);
+    let mut answer = found
+        .as_ref()
+        .map_or_else(|refusal| refusal_words(*refusal), |_| vec![0; 3]);
+    let header = found.unwrap_or_default();
+    let used = header.underflows.is_some();
+    let if_used = |number: u64| if used { number } else { 0 };
+    answer.extend([
+        header.format,
+        header.length as u64,
+        header.rows,
+        header.columns,
+    ]);
+    answer.extend([header.width, header.overflows, u64::from(used)]);
+    answer.extend([if_used(header.underflow_width), if_used(header.baseline)]);
+    answer.extend([
+        header.underflows.unwrap_or(0),
+        header.two_byte,
+        header.four_byte,
+    ]);
+    answer
+}
+
+fn listing_answer(ledger: &[u8], out: &mut [u8]) -> Vec<u64> {
+    let (text, room) = listing::listing(ledger);
+    if out.len() < room {
+        return vec![1, 0];
+    }
+    let start = out.len() - text.len();
+    out[start..].copy_from_slice(text.as_bytes());
+    vec![0, text.len() as u64]
+}
+
 fn ledger_answer(result: Result<(), u32>, lines: &mut u64) -> Vec<u64> {
     *lines += u64::from(result.is_ok());
     vec![result.err().unwrap_or(0).into(), *lines]
@@ -148,6 +185,8 @@ fn second_step(step: &Step, out: &mut Outcome) -> u64 {
             let result = ledger::may_purge(ledger, lines, date(step));
             vec![result.err().unwrap_or(0).into()]
         }
+        Call::Header => header_answer(&case.frame),
+        Call::Listing => listing_answer(ledger, held),
     };
     let call = if step.call == Call::List {
         Call::Open

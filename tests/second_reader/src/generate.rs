@@ -319,13 +319,13 @@ fn ledger_damage(random: &mut Random, ledger: &[u8], lines: u64) -> Mutation {
 
 fn damage(random: &mut Random, case: &Case) -> Vec<Mutation> {
     let target = match case.step.call {
-        Call::Read | Call::Write | Call::Open | Call::List => Target::Frame,
+        Call::Read | Call::Write | Call::Open | Call::Header | Call::List => Target::Frame,
         Call::Correct | Call::Withdraw if random.once_in(2) => Target::Buffer,
         _ => Target::Ledger,
     };
     let length = match case.step.call {
         Call::List => 0,
-        Call::Read | Call::Write | Call::Open => random.pick(&[0, 1, 1, 1, 1, 2, 4]),
+        Call::Read | Call::Write | Call::Open | Call::Header => random.pick(&[0, 1, 1, 1, 1, 2, 4]),
         _ => random.pick(&[0, 0, 0, 1, 1, 2]),
     };
     let one = |random: &mut Random| match target {
@@ -395,7 +395,7 @@ fn step(random: &mut Random, call: Call, pixels: usize, baseline: u32) -> Step {
 
 fn frame_case(random: &mut Random, call: Call, size: Size) -> Case {
     let old = match call {
-        Call::Read => random.once_in(3),
+        Call::Read | Call::Header => random.once_in(3),
         Call::List => false,
         _ => random.once_in(12),
     };
@@ -486,6 +486,23 @@ fn held_case(random: &mut Random, call: Call, size: Size) -> Case {
     }
 }
 
+/// Most often a ledger of whole lines, and room for its text or one byte less.
+fn listing_case(random: &mut Random, size: Size) -> Case {
+    let mut case = held_case(random, Call::Listing, size);
+    if !random.once_in(8) {
+        let lines = case.lines.min((case.ledger.len() / BYTES) as u64);
+        case.ledger.truncate(lines as usize * BYTES);
+    }
+    let room = 32 + case.ledger.len() / BYTES * 80 + random.index(3);
+    let short = if random.once_in(8) {
+        1 + random.index(3)
+    } else {
+        0
+    };
+    case.buffer = any_bytes(random, room - short);
+    case
+}
+
 /// A valid case and what is then done to its bytes.
 pub struct Made {
     /// None where the call looks at no frame.
@@ -511,8 +528,8 @@ fn size(random: &mut Random, number: u64) -> Size {
 
 pub fn case(random: &mut Random, number: u64) -> Made {
     let size = size(random, number);
-    // The last two look at no frame.
-    let calls = if size.is_large() { 14 } else { 16 };
+    // The last three look at no frame.
+    let calls = if size.is_large() { 15 } else { 18 };
     let call = match random.below(calls) {
         0..=3 => Call::Read,
         4 | 5 => Call::Write,
@@ -520,16 +537,19 @@ pub fn case(random: &mut Random, number: u64) -> Made {
         8 | 9 => Call::Correct,
         10 | 11 => Call::Withdraw,
         12 | 13 => Call::List,
-        14 => Call::Keep,
-        _ => Call::Purge,
+        14 => Call::Header,
+        15 => Call::Keep,
+        16 => Call::Purge,
+        _ => Call::Listing,
     };
     let base = match call {
-        Call::Read | Call::Write | Call::Open => frame_case(random, call, size),
+        Call::Read | Call::Write | Call::Open | Call::Header => frame_case(random, call, size),
+        Call::Listing => listing_case(random, size),
         Call::List => list_case(random, size),
         _ => held_case(random, call, size),
     };
     let damage = damage(random, &base);
-    let framed = !matches!(call, Call::Keep | Call::Purge);
+    let framed = !matches!(call, Call::Keep | Call::Purge | Call::Listing);
     Made {
         size: framed.then_some(size),
         base,

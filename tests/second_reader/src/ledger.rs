@@ -72,7 +72,7 @@ impl Entry {
 }
 
 /// Whether the entry at a place stands, counted on from the one after it.
-fn stands(entries: &[Entry], place: usize) -> bool {
+pub fn stands(entries: &[Entry], place: usize) -> bool {
     let mut balance = 0i64;
     for entry in &entries[place + 1..] {
         balance += if *entry == Entry::Withdrawal { 1 } else { -1 };

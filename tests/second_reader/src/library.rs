@@ -126,3 +126,28 @@ pub fn may_purge(ledger: &[u8], lines: u64, day: (u32, u32, u32)) -> Answer {
     let refusal = quayrudder::may_purge(a.middle(), lines, date(day));
     (vec![u64::from(refusal)], a.is_untouched(ledger))
 }
+
+pub fn header(frame: &[u8]) -> Answer {
+    let mut a = Lent::new(frame, BYTE);
+    let r = quayrudder::header(a.middle());
+    let mut numbers = words([
+        r.refusal, r.place, r.column, r.format, r.start, r.rows, r.columns,
+    ]);
+    numbers.extend(words([
+        r.width,
+        r.entries,
+        r.subtracted,
+        r.entry,
+        r.baseline,
+    ]));
+    numbers.extend(words([r.underflows, r.two, r.four]));
+    (numbers, a.is_untouched(frame))
+}
+
+pub fn list(ledger: &[u8], out: &mut [u8]) -> Answer {
+    let mut a = Lent::new(ledger, BYTE);
+    let mut b = Lent::new(out, BYTE);
+    let r = quayrudder::list(a.middle(), b.middle());
+    let numbers = vec![u64::from(r.too_short), r.length];
+    (numbers, a.is_untouched(ledger) & b.give_back(out))
+}

@@ -10,6 +10,7 @@ mod generate;
 mod held;
 mod ledger;
 mod library;
+mod listing;
 mod model;
 mod random;
 mod sample;

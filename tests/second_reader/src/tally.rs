@@ -22,6 +22,9 @@ fn possible(call: Call) -> Vec<u64> {
         Call::Keep => vec![0, 20, 21, 25],
         Call::Withdraw => vec![0, 17, 18, 19, 20, 21, 22, 23, 24],
         Call::Purge => vec![0, 20, 25, 26, 27],
+        Call::Header => (0..=9).collect(),
+        // 0, and 1 where the buffer is too short.
+        Call::Listing => vec![0, 1],
         Call::List => Vec::new(),
     }
 }
