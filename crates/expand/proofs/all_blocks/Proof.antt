@@ -3,31 +3,24 @@ use borrow.Author.Needs.{needs}
 use Rattle.expand.proofs.all_blocks.Statement.{statement}
 use Rattle.expand.proofs.all_blocks.Tie as tie
 
--- src/lib.rt:564:8
 expects-few-requires : tie.Need-expects-few-requires
 expects-few-requires c κs = search needs
 
--- src/lib.rt:565:9
 few-blocks-requires : tie.Need-few-blocks-requires
 few-blocks-requires c κs = let a = c .before .before .expects-few .ensures (c .before .if1 .taken) in let q = rw (a .0) at (c .before .before .before .before .before .before .before .before .pre) in (omega (arith, q), a .1, a .2)
 
--- src/lib.rt:565:9
 same-length : tie.Need-same-length
 same-length c = search needs
 
--- src/lib.rt:565:9
 returns : tie.Need-returns
 returns c = rw (c .before .before .before .before .before .expects-few .ensures (c .before .before .before .before .if1 .taken) .0) (c .before .before .few-blocks .ensures)
 
--- src/lib.rt:567:5
 blocks-requires : tie.Need-blocks-requires
 blocks-requires c κs = search needs
 
--- src/lib.rt:552:1
 same-length-2 : tie.Need-same-length-2
 same-length-2 c = search needs
 
--- src/lib.rt:552:1
 returns-2 : tie.Need-returns-2
 returns-2 c = search needs
 

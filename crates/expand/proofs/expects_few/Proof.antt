@@ -9,23 +9,18 @@ use Rattle.expand.proofs.expects_few.Tie as tie
 enum-told : tie.Need-enum-told
 enum-told c = search needs
 
--- src/lib.rt:540:9
 returns : tie.Need-returns
 returns c = λ e. absurd (no (sym e))
 
--- src/lib.rt:543:9
 returns-2 : tie.Need-returns-2
 returns-2 c = λ e. absurd (no (sym e))
 
--- src/lib.rt:546:9
 returns-3 : tie.Need-returns-3
 returns-3 c = λ e. absurd (no (sym e))
 
--- src/lib.rt:548:5
 cast-result : tie.Need-cast-result
 cast-result c = search needs
 
--- src/lib.rt:536:1
 returns-4 : tie.Need-returns-4
 returns-4 c = λ e. (c .before .before .before .before .before .enum-told .given .1, not-false (c .before .before .before .before .before .before .before .args .c .applies) (c .before .before .before .if1 .left), omega arith)
 

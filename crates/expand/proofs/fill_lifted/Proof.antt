@@ -2,35 +2,27 @@ use borrow.Author.Needs.{needs}
 use Rattle.expand.proofs.fill_lifted.Statement.{statement}
 use Rattle.expand.proofs.fill_lifted.Tie as tie
 
--- src/lib.rt:401:40
 enum-told : tie.Need-enum-told
 enum-told c = search needs
 
--- src/lib.rt:401:28
 fill-marked-requires : tie.Need-fill-marked-requires
 fill-marked-requires c κs = search needs
 
--- src/lib.rt:402:40
 enum-told-2 : tie.Need-enum-told-2
 enum-told-2 c = search needs
 
--- src/lib.rt:402:28
 fill-marked-requires-2 : tie.Need-fill-marked-requires-2
 fill-marked-requires-2 c κs = search needs
 
--- src/lib.rt:395:1
 same-length : tie.Need-same-length
 same-length c = search needs
 
--- src/lib.rt:395:1
 returns : tie.Need-returns
 returns c = rw (c .before .before .before .before .enum-told .given .1) (c .before .before .fill-marked .ensures)
 
--- src/lib.rt:395:1
 same-length-2 : tie.Need-same-length-2
 same-length-2 c = search needs
 
--- src/lib.rt:395:1
 returns-2 : tie.Need-returns-2
 returns-2 c = rw (c .before .before .before .before .enum-told2 .given .1) (c .before .before .fill-marked2 .ensures)
 

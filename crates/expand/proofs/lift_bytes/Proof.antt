@@ -13,47 +13,36 @@ Inv-loop image base pixels₀ i₀ pixels i = Copying (wrapped base) image pixel
 abbrev μ-loop : tie.MeasureT-loop
 μ-loop image base pixels₀ i₀ pixels i = length pixels₀ - i
 
--- src/lib.rt:388:5
 loop-holds : tie.Need-loop-holds Inv-loop μ-loop
 loop-holds c = copying-start _ _ _
 
--- src/lib.rt:389:48
 shared-slice-read-wrapping-add-u32 : tie.Need-shared-slice-read-wrapping-add-u32 Inv-loop μ-loop
 shared-slice-read-wrapping-add-u32 c = omega arith
 
--- src/lib.rt:389:48
 cast-wrapping-add-u32 : tie.Need-cast-wrapping-add-u32 Inv-loop μ-loop
 cast-wrapping-add-u32 c = omega (arith, c .shared-slice-known2 .given (c .before .before .loop .i))
 
--- src/lib.rt:389:21
 wrapping-add-u32-requires : tie.Need-wrapping-add-u32-requires Inv-loop μ-loop
 wrapping-add-u32-requires c κs = search needs
 
--- src/lib.rt:389:9
 mul-pixels : tie.Need-mul-pixels Inv-loop μ-loop
 mul-pixels c = omega arith
 
--- src/lib.rt:389:9
 slice-write-pixels : tie.Need-slice-write-pixels Inv-loop μ-loop
 slice-write-pixels c = omega arith
 
--- src/lib.rt:390:9
 add-i : tie.Need-add-i Inv-loop μ-loop
 add-i c = omega arith
 
--- src/lib.rt:388:5
 loop-less : tie.Need-loop-less Inv-loop μ-loop
 loop-less c = omega arith
 
--- src/lib.rt:388:5
 loop-again : tie.Need-loop-again Inv-loop μ-loop
 loop-again c = copying-more (c .before .before .before .loop .inv) (c .before .before .loop-test .taken) (omega arith) (c .wrapping-add-u32 .ensures)
 
--- src/lib.rt:383:1
 same-length : tie.Need-same-length Inv-loop μ-loop
 same-length c = c .before .loop .inv .same
 
--- src/lib.rt:383:1
 returns : tie.Need-returns Inv-loop μ-loop
 returns c = copying-done (c .before .loop .inv) (c .loop-test .left) (omega arith)
 

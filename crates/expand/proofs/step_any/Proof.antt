@@ -5,27 +5,21 @@ use borrow.Author.Needs.{needs}
 use Rattle.expand.proofs.step_any.Statement.{statement}
 use Rattle.expand.proofs.step_any.Tie as tie
 
--- src/lib.rt:453:5
 load-requires : tie.Need-load-requires
 load-requires c κs = search needs
 
--- src/lib.rt:454:9
 fill-marked-requires : tie.Need-fill-marked-requires
 fill-marked-requires c κs = search needs
 
--- src/lib.rt:455:9
 fill-some-requires : tie.Need-fill-some-requires
 fill-some-requires c κs = search needs
 
--- src/lib.rt:456:9
 lift-few-requires : tie.Need-lift-few-requires
 lift-few-requires c κs = search needs
 
--- src/lib.rt:441:1
 same-length : tie.Need-same-length
 same-length c = search needs
 
--- src/lib.rt:441:1
 returns : tie.Need-returns
 returns c = let e = loaded 1 (length (c .before .before .before .before .before .before .before .before .before .before .before .before .before .before .before .before .before .before .before .before .before .args .pixels .now)) (c .before .before .before .before .before .before .before .before .before .before .before .before .before .before .before .before .before .before .before .before .before .args .image .now) _ _ (omega arith) (c .before .before .before .before .before .before .before .before .before .before .before .before .before .before .load .ensures .1) in stepped-of (replaced-hit _ _ _ _ _ _ _ _ _ e (c .before .before .before .before .before .before .before .before .before .before .fill-marked .ensures) (c .before .before .before .before .before .before .fill-some .ensures)) (c .before .before .lift-few .ensures)
 

@@ -4,31 +4,24 @@ use borrow.Author.Needs.{needs}
 use Rattle.expand.proofs.step_few.Statement.{statement}
 use Rattle.expand.proofs.step_few.Tie as tie
 
--- src/lib.rt:492:8
 has-byte-requires : tie.Need-has-byte-requires
 has-byte-requires c κs = search needs
 
--- src/lib.rt:493:9
 step-any-requires : tie.Need-step-any-requires
 step-any-requires c κs = search needs
 
--- src/lib.rt:493:9
 same-length : tie.Need-same-length
 same-length c = search needs
 
--- src/lib.rt:493:9
 returns : tie.Need-returns
 returns c = search needs
 
--- src/lib.rt:495:9
 lift-few-bytes-requires : tie.Need-lift-few-bytes-requires
 lift-few-bytes-requires c κs = search needs
 
--- src/lib.rt:480:1
 same-length-2 : tie.Need-same-length-2
 same-length-2 c = search needs
 
--- src/lib.rt:480:1
 returns-2 : tie.Need-returns-2
 returns-2 c = stepped-bytes _ _ _ _ _ _ _ _ _ (c .before .before .before .before .before .has-byte .result) (omega arith) (λ i. omega (arith, c .before .before .before .before .before .before .before .before .before .before .shared-slice-known .given i)) (omega arith) (c .before .before .before .before .before .has-byte .ensures) (c .before .before .before .before .if1 .left) (c .before .before .lift-few-bytes .ensures)
 

@@ -7,31 +7,24 @@ use Rattle.header.proofs.read_header.Reads as read-header-reads
 use Rattle.header_report.proofs.report_refused.Reads as report-refused-reads
 use Rattle.header_report.proofs.report_tables.Reads as report-tables-reads
 
--- src/lib.rt:173:11
 read-header-requires : tie.Need-read-header-requires
 read-header-requires c κs = search needs
 
--- src/lib.rt:174:32
 enum-known-h : tie.Need-enum-known-h
 enum-known-h c = search needs
 
--- src/lib.rt:177:13
 report-tables-requires : tie.Need-report-tables-requires
 report-tables-requires c κs = search needs
 
--- src/lib.rt:179:31
 enum-known-r : tie.Need-enum-known-r
 enum-known-r c = search needs
 
--- src/lib.rt:179:37
 report-refused-requires : tie.Need-report-refused-requires
 report-refused-requires c κs = search needs
 
--- src/lib.rt:170:1
 returns : tie.Need-returns
 returns c = rw (← c .before .before .before .before .before .read-header .ensures, c .before .before .before .h .given .1) (c .report-tables .ensures)
 
--- src/lib.rt:170:1
 returns-2 : tie.Need-returns-2
 returns-2 c = rw (← c .before .before .before .before .read-header .ensures, c .before .before .r .given .1) (c .report-refused .ensures)
 

@@ -6,15 +6,12 @@ use Rattle.header_report.proofs.report_100.Lts as lts
 use Rattle.header_report.proofs.underflow_report.Reads as underflow-report-reads
 use Rattle.header_report.proofs.width_number.Reads as width-number-reads
 
--- src/lib.rt:118:9
 underflow-report-requires : tie.Need-underflow-report-requires
 underflow-report-requires c κs = search needs
 
--- src/lib.rt:127:16
 width-number-requires : tie.Need-width-number-requires
 width-number-requires c κs = search needs
 
--- src/lib.rt:113:1
 returns : tie.Need-returns
 returns c = rw (c .width-number .ensures, c .before .underflow-report .ensures)
 

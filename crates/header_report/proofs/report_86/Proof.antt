@@ -5,11 +5,9 @@ use Rattle.header_report.proofs.report_86.Reads as reads
 use Rattle.header_report.proofs.report_86.Lts as lts
 use Rattle.header_report.proofs.width_number.Reads as width-number-reads
 
--- src/lib.rt:102:16
 width-number-requires : tie.Need-width-number-requires
 width-number-requires c κs = search needs
 
--- src/lib.rt:90:1
 returns : tie.Need-returns
 returns c = rw (c .width-number .ensures)
 

@@ -6,15 +6,12 @@ use Rattle.header_report.proofs.report_refused.Lts as lts
 use Rattle.refusal.proofs.number_of.Reads as number-of-reads
 use Rattle.refusal.proofs.place_of.Reads as place-of-reads
 
--- src/lib.rt:142:18
 number-of-requires : tie.Need-number-of-requires
 number-of-requires c κs = search needs
 
--- src/lib.rt:143:16
 place-of-requires : tie.Need-place-of-requires
 place-of-requires c κs = search needs
 
--- src/lib.rt:138:1
 returns : tie.Need-returns
 returns c = rw (c .place-of .ensures, c .before .number-of .ensures)
 

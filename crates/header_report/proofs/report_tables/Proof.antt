@@ -6,27 +6,21 @@ use Rattle.header_report.proofs.report_tables.Lts as lts
 use Rattle.header_report.proofs.report_100.Reads as report-100-reads
 use Rattle.header_report.proofs.report_86.Reads as report-86-reads
 
--- src/lib.rt:164:28
 enum-known-t : tie.Need-enum-known-t
 enum-known-t c = search needs
 
--- src/lib.rt:164:41
 report-86-requires : tie.Need-report-86-requires
 report-86-requires c κs = search needs
 
--- src/lib.rt:165:27
 enum-known-t-2 : tie.Need-enum-known-t-2
 enum-known-t-2 c = search needs
 
--- src/lib.rt:165:38
 report-100-requires : tie.Need-report-100-requires
 report-100-requires c κs = search needs
 
--- src/lib.rt:160:1
 returns : tie.Need-returns
 returns c = rw (c .before .before .t .given .1) (c .report-86 .ensures)
 
--- src/lib.rt:160:1
 returns-2 : tie.Need-returns-2
 returns-2 c = rw (c .before .before .t2 .given .1) (c .report-100 .ensures)
 

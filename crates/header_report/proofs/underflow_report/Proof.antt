@@ -5,31 +5,24 @@ use Rattle.header_report.proofs.underflow_report.Reads as reads
 use Rattle.header_report.proofs.underflow_report.Lts as lts
 use Rattle.header_report.proofs.entry_number.Reads as entry-number-reads
 
--- src/lib.rt:65:31
 enum-told : tie.Need-enum-told
 enum-told c = search needs
 
--- src/lib.rt:71:31
 enum-known-u : tie.Need-enum-known-u
 enum-known-u c = search needs
 
--- src/lib.rt:78:13
 enum-known-u-2 : tie.Need-enum-known-u-2
 enum-known-u-2 c = search needs
 
--- src/lib.rt:83:20
 entry-number-requires : tie.Need-entry-number-requires
 entry-number-requires c κs = search needs
 
--- src/lib.rt:61:1
 returns : tie.Need-returns
 returns c = rw (c .enum-told .given .1)
 
--- src/lib.rt:61:1
 returns-2 : tie.Need-returns-2
 returns-2 c = rw (c .before .u .given .1)
 
--- src/lib.rt:61:1
 returns-3 : tie.Need-returns-3
 returns-3 c = rw (c .before .before .u2 .given .1, c .entry-number .ensures)
 

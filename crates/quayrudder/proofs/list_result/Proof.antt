@@ -4,19 +4,15 @@ use Rattle.quayrudder.proofs.list_result.Tie as tie
 use Rattle.quayrudder.proofs.list_result.Reads as reads
 use Rattle.quayrudder.proofs.list_result.Lts as lts
 
--- src/lib.rt:319:30
 enum-known-answer : tie.Need-enum-known-answer
 enum-known-answer c = search needs
 
--- src/lib.rt:323:33
 enum-told : tie.Need-enum-told
 enum-told c = search needs
 
--- src/lib.rt:315:1
 returns : tie.Need-returns
 returns c = rw (c .before .answer .given .1)
 
--- src/lib.rt:315:1
 returns-2 : tie.Need-returns-2
 returns-2 c = rw (c .enum-told .given .1)
 

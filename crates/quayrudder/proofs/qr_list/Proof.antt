@@ -8,19 +8,15 @@ use Rattle.quayrudder.proofs.qr_list.Lts as lts
 use Rattle.listing.proofs.list.Reads as list-reads
 use Rattle.quayrudder.proofs.list_result.Reads as list-result-reads
 
--- src/lib.rt:336:17
 list-requires : tie.Need-list-requires
 list-requires c κs = search needs
 
--- src/lib.rt:336:5
 list-result-requires : tie.Need-list-result-requires
 list-result-requires c κs = search needs
 
--- src/lib.rt:331:1
 same-length : tie.Need-same-length
 same-length c = search needs
 
--- src/lib.rt:331:1
 returns : tie.Need-returns
 returns c = (c .list-result .ensures ∙ ap listResult (c .before .before .before .list .ensures .0), c .before .before .before .list .ensures .1)
 
