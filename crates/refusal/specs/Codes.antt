@@ -1,11 +1,11 @@
--- Document 01, "Numbers given back": the number of each refusal, and the value that goes with it.
+-- Document 01, "Numbers given back", and request A2: the number of each refusal, and the value that goes with it.
 use Prim.Native.Nat.{ℕ}
 use Rattle.refusal.specs.declared.Refusal.{Refusal}
 use Rattle.refusal.specs.declared.Refusal.the-variants as R
 use Rattle.refusal.specs.declared.Code.{Code}
 
 abbrev pub refusalNumber : Refusal → ℕ
--- under 240 bytes, or under the header's length
+-- under 240 bytes, or under the header's length; mar: under one record
 refusalNumber R.HeaderTruncated = 1
 -- a name of lines 0 to 2
 refusalNumber R.WrongName = 2
@@ -26,7 +26,7 @@ refusalNumber R.PixelArrayShort = 10
 -- the image or a table ends past the bytes
 refusalNumber R.DataTruncated = 11
 refusalNumber R.PaddingNotZero = 12
--- an entry of FORMAT 86
+-- an entry of FORMAT 86, or a high-intensity pair
 refusalNumber (R.BadEntry entry) = 13
 -- tables not used up, or entries wanting
 refusalNumber R.CountMismatch = 14
@@ -50,6 +50,10 @@ refusalNumber R.NotADate = 25
 -- purge: no keep line stands; not yet
 refusalNumber R.NoKeepLine = 26
 refusalNumber R.NotYet = 27
+-- mar: no such size; numbers that do not follow from the first and the fifth; no such header entry
+refusalNumber R.BadPlateSize = 28
+refusalNumber R.PlateMismatch = 29
+refusalNumber R.NoSuchEntry = 37
 
 -- the header line of a field, the place of an entry, counted from 0; 0 for every other refusal
 abbrev pub refusalPlace : Refusal → ℕ
@@ -80,6 +84,9 @@ refusalPlace R.NoSuchPixel = 0
 refusalPlace R.NotADate = 0
 refusalPlace R.NoKeepLine = 0
 refusalPlace R.NotYet = 0
+refusalPlace R.BadPlateSize = 0
+refusalPlace R.PlateMismatch = 0
+refusalPlace R.NoSuchEntry = 0
 
 -- a refusal as its number and its value
 abbrev pub codeOf : Refusal → Code

@@ -2,7 +2,7 @@
 ghost use mathlib.Core.Path.{_≡_};
 ghost use Rattle.refusal.specs.Codes.{refusalNumber, refusalPlace, codeOf};
 
-// One case for each number of document 01's table, in its order; specs/Codes.antt gives the numbers.
+// One case for each number of document 01's table, and then of request A2, in their order; specs/Codes.antt gives the numbers.
 pub enum Refusal {
     HeaderTruncated,
     WrongName,
@@ -31,6 +31,9 @@ pub enum Refusal {
     NotADate,
     NoKeepLine,
     NotYet,
+    BadPlateSize,
+    PlateMismatch,
+    NoSuchEntry,
 }
 
 // What a caller outside sees of a refusal: its number, and the header line or the entry's place that goes with it.
@@ -70,6 +73,9 @@ pub fn number_of(r: Refusal) -> u32
         Refusal::NotADate => 25,
         Refusal::NoKeepLine => 26,
         Refusal::NotYet => 27,
+        Refusal::BadPlateSize => 28,
+        Refusal::PlateMismatch => 29,
+        Refusal::NoSuchEntry => 37,
     }
 }
 
@@ -104,6 +110,9 @@ pub fn place_of(r: Refusal) -> u32
         Refusal::NotADate => 0,
         Refusal::NoKeepLine => 0,
         Refusal::NotYet => 0,
+        Refusal::BadPlateSize => 0,
+        Refusal::PlateMismatch => 0,
+        Refusal::NoSuchEntry => 0,
     }
 }
 
