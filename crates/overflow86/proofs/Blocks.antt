@@ -14,7 +14,8 @@ use lib.Dec.{eqb, ltb}
 use borrow.Author.Tests.{eq-eqb, ne-eqb, lt-ltb, ltb-false}
 use Rattle.table.specs.Table.{entries}
 use Rattle.table.proofs.Laws.{length-entries, entries-part}
-use Rattle.overflow86.specs.Steps.{countOf, waitingIf}
+use Rattle.marks.specs.Steps.{countOf}
+use Rattle.overflow86.specs.Steps.{waitingIf}
 use Rattle.overflow86.proofs.Loops.{count-cons, one-le}
 
 pub count-append : (m : ℕ) (a b : List ℕ) → countOf m (a ++ b) ≡ countOf m a + countOf m b

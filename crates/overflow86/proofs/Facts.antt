@@ -21,15 +21,16 @@ use Rattle.layout.specs.Form.{widthBytes}
 use Rattle.layout.specs.Layout.{pixelCount, imageEnd, textEnd}
 use Rattle.table.specs.Table.{entries}
 use Rattle.table.proofs.Laws.{length-entries, entries-take as stored-take}
-use Rattle.overflow86.specs.declared.Entry.{Entry}
-use Rattle.overflow86.specs.declared.Entry.the-variants as E
-use Rattle.overflow86.specs.declared.Checked.{Checked}
-use Rattle.overflow86.specs.declared.Checked.the-variants as C
+use Rattle.marks.specs.declared.Entry.{Entry}
+use Rattle.marks.specs.declared.Entry.the-variants as E
+use Rattle.marks.specs.declared.Checked.{Checked}
+use Rattle.marks.specs.declared.Checked.the-variants as C
 use Rattle.overflow86.specs.declared.Expanded86.the-variants as X
 use Rattle.overflow86.specs.Entries.{entryOf, textEntries}
-use Rattle.overflow86.specs.Expand86.{isMarked, markedAt, isFor, hasEntry, isGood, firstBad, wanting, thenWanting, checkedOf, intensityAt, withEntries, framePixels, storedImage, tableEntries, answerBy, textAnswer, textPixels}
+use Rattle.marks.specs.Marks.{isMarked, markedAt, isFor, hasEntry, isGood, firstBad, intensityAt, withEntries}
+use Rattle.marks.proofs.Laws.{with-length, with-at}
+use Rattle.overflow86.specs.Expand86.{wanting, thenWanting, checkedOf, framePixels, storedImage, tableEntries, answerBy, textAnswer, textPixels}
 use Rattle.overflow86.proofs.Texts.{entries-take}
-use Rattle.overflow86.proofs.Laws.{with-length, with-at}
 
 -- how many entries are for pixel number p
 unfoldable pub entriesFor : ℕ → List Entry → ℕ

@@ -13,7 +13,7 @@ use Rattle.layout.specs.Form.{widthBytes}
 use Rattle.layout.specs.Layout.{pixelCount, imageEnd, textTableBytes, textEnd}
 use Rattle.table.specs.Table.{entries}
 use Rattle.table.proofs.Laws.{entries-take as stored-take}
-use Rattle.overflow86.specs.declared.Checked.{Checked}
+use Rattle.marks.specs.declared.Checked.{Checked}
 use Rattle.overflow86.specs.declared.Expanded86.{Expanded86}
 use Rattle.overflow86.specs.declared.Expanded86.the-variants as X
 use Rattle.overflow86.specs.Entries.{textEntries}

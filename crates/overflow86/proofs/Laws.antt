@@ -1,18 +1,16 @@
--- A pixel waits exactly while it is marked and no entry has come for it: so the loop over the entries finds the first bad one, and
--- the marks that it leaves are the marked pixels without an entry.
+-- The array's loops give what the definition says, and the marks that they leave are the marked pixels without an entry.
 -- Assumes nothing.
 use mathlib.Core.Path.{_≡_, refl, sym, ap, _∙_}
 use mathlib.Core.Bool.{Bool, true, false, not, _&&_}
-use mathlib.Core.List.{List, [], _∷_, _++_, map, append-nil}
+use mathlib.Core.List.{List, [], _∷_, map}
 use Prim.Native.Nat.{ℕ, zero, suc, _+_, _-_, _*_, _^_, _≤_, _<_}
-use native.Mathlib.Nat.{one-le-pow, add-zero, zero-add, le-of-suc-le-suc, not-suc-le-zero}
+use native.Mathlib.Nat.{one-le-pow}
 use native.Mathlib.Omega.{arith}
-use lib.ListN.{length, getD, take, drop, set, length-set}
-use lib.Seq.{append-snoc, getD-drop, getD-set-same, getD-set-other, ext-getD}
+use lib.ListN.{length, getD, take, drop}
+use lib.Seq.{getD-drop}
 use lib.Dec.{eqb, leb, ltb}
-use borrow.Author.Tests.{not-true, eq-eqb, ne-eqb, eqb-true, eqb-false, lt-ltb, ltb-true, ltb-false, le-leb}
+use borrow.Author.Tests.{eq-eqb, ne-eqb, lt-ltb, ltb-true, ltb-false, le-leb}
 use Rattle.lists.specs.Choose.{if_then_else_}
-use Rattle.lists.proofs.Tests.{and-true-left, and-true-right}
 use Rattle.layout.specs.declared.Width.{Width}
 use Rattle.layout.specs.declared.Width.the-variants as W
 use Rattle.layout.specs.Form.{widthBytes}
@@ -22,207 +20,25 @@ use Rattle.table.specs.Table.{entries}
 use Rattle.table.proofs.Laws.{length-entries, entries-out, entries-at as stored-at}
 use Rattle.refusal.specs.declared.Refusal.{Refusal}
 use Rattle.refusal.specs.declared.Refusal.the-variants as R
-use Rattle.overflow86.specs.declared.Entry.{Entry}
-use Rattle.overflow86.specs.declared.Entry.the-variants as E
-use Rattle.overflow86.specs.declared.Checked.{Checked}
-use Rattle.overflow86.specs.declared.Checked.the-variants as C
+use Rattle.marks.specs.declared.Entry.{Entry}
+use Rattle.marks.specs.declared.Entry.the-variants as E
+use Rattle.marks.specs.declared.Checked.{Checked}
+use Rattle.marks.specs.declared.Checked.the-variants as C
 use Rattle.overflow86.specs.Entries.{textEntries}
-use Rattle.overflow86.specs.Expand86.{isMarked, markedAt, isFor, intensityOf, hasEntry, isGood, firstBad, wanting, checkedOf, intensityAt, withEntries, framePixels}
-use Rattle.overflow86.specs.Steps.{waiting, takes, put, placing, placed, noEntries, placingIn, placedIn, countOf, waitingIf, marksIn, awaiting}
+use Rattle.marks.specs.Marks.{isMarked, hasEntry, isGood, firstBad, intensityAt, withEntries}
+use Rattle.marks.specs.Steps.{placing, placed, countOf}
+use Rattle.marks.proofs.Laws.{Apart, waits, intensity-some, with-length, held, Taken, taken}
+use Rattle.overflow86.specs.Expand86.{wanting, checkedOf, framePixels}
+use Rattle.overflow86.specs.Steps.{waiting, noEntries, placingIn, placedIn, waitingIf, marksIn, awaiting}
 use Rattle.overflow86.proofs.Texts.{entry-small, entries-length}
 
--- no entry has the intensity that a waiting pixel holds
-abbrev pub Small : List Entry → Type 0
-Small [] = Unit {0}
-Small (e ∷ es) = (intensityOf e < waiting) × Small es
-
-pub entries-small : (n : ℕ) (t : List ℕ) → Small (textEntries n t)
+pub entries-apart : (n : ℕ) (t : List ℕ) → Apart waiting (textEntries n t)
 unfolding textEntries
-entries-small zero t = tt
-entries-small (suc n) t = (omega (arith, entry-small t), entries-small n (drop 16 t))
-
-small-append : (a b : List Entry) → Small a → Small b → Small (a ++ b)
-small-append [] b p q = q
-small-append (e ∷ a) b p q = (p .0, small-append a b (p .1) q)
-
--- the entries of a list and of one behind it
-intensity-append : (none p : ℕ) (a b : List Entry) → intensityAt none p (a ++ b) ≡ intensityAt (intensityAt none p b) p a
-unfolding intensityAt
-intensity-append none p [] b = refl
-intensity-append none p (e ∷ a) b = ap (λ (x : ℕ). if_then_else_ (isFor p e) (intensityOf e) x) (intensity-append none p a b)
-
-intensity-none : (none p : ℕ) (es : List Entry) → hasEntry p es ≡ false → intensityAt none p es ≡ none
-unfolding intensityAt hasEntry
-intensity-none none p [] h = refl
-intensity-none none p (e ∷ es) h = go (isFor p e) refl (intensity-none none p es)
-  where
-    go : (b : Bool) → isFor p e ≡ b → (hasEntry p es ≡ false → intensityAt none p es ≡ none) → intensityAt none p (e ∷ es) ≡ none
-    go true q f = absurd (let z : true ≡ false = rw q at h in let y : _≡_ {A = ℕ} 0 1 = cc in omega arith)
-    go false q f = rw q (f (rw q at h))
-
-intensity-some : (a b p : ℕ) (es : List Entry) → hasEntry p es ≡ true → intensityAt a p es ≡ intensityAt b p es
-unfolding intensityAt hasEntry
-intensity-some a b p [] h = absurd (let y : _≡_ {A = ℕ} 0 1 = cc in omega arith)
-intensity-some a b p (e ∷ es) h = go (isFor p e) refl (intensity-some a b p es)
-  where
-    go : (t : Bool) → isFor p e ≡ t → (hasEntry p es ≡ true → intensityAt a p es ≡ intensityAt b p es) → intensityAt a p (e ∷ es) ≡ intensityAt b p (e ∷ es)
-    go true q f = rw q
-    go false q f = rw q (f (rw q at h))
-
-intensity-small : (p : ℕ) (es : List Entry) → Small es → intensityAt 0 p es < waiting
-unfolding intensityAt
-intensity-small p [] s = omega arith
-intensity-small p (e ∷ es) s = go (isFor p e) refl (intensity-small p es (s .1))
-  where
-    go : (t : Bool) → isFor p e ≡ t → intensityAt 0 p es < waiting → intensityAt 0 p (e ∷ es) < waiting
-    go true q f = rw q (s .0)
-    go false q f = rw q f
-
-only-hit : (j v p : ℕ) → eqb j p ≡ true → intensityAt waiting j (E.Read v p ∷ []) ≡ v
-unfolding intensityAt
-only-hit j v p q = rw q
-
-only-miss : (j v p : ℕ) → eqb j p ≡ false → intensityAt waiting j (E.Read v p ∷ []) ≡ waiting
-unfolding intensityAt
-only-miss j v p q = rw q
-
--- a marked pixel still waits exactly if it has no entry
-waits : (p : ℕ) (es : List Entry) → Small es → eqb (intensityAt waiting p es) waiting ≡ not (hasEntry p es)
-waits p es s = go (hasEntry p es) refl
-  where
-    go : (t : Bool) → hasEntry p es ≡ t → eqb (intensityAt waiting p es) waiting ≡ not (hasEntry p es)
-    go true q =
-        let e : intensityAt waiting p es ≡ intensityAt 0 p es = intensity-some waiting 0 p es q in
-        let n : intensityAt waiting p es ≡ waiting → ⊥ = λ k. omega (arith, e, intensity-small p es s) in
-        rw (q, ne-eqb _ _ n)
-    go false q = rw (q, eq-eqb _ _ (intensity-none waiting p es q))
-
-pub with-length : (none : ℕ) (w : Width) (es : List Entry) (i : ℕ) (vs : List ℕ) → length (withEntries none w es i vs) ≡ length vs
-unfolding withEntries
-with-length none w es i [] = refl
-with-length none w es i (v ∷ vs) = ap suc (with-length none w es (suc i) vs)
-
-pub with-at : (none : ℕ) (w : Width) (es : List Entry) (i : ℕ) (vs : List ℕ) (p : ℕ) → p < length vs
-    → getD (withEntries none w es i vs) p 0 ≡ if_then_else_ (isMarked w (getD vs p 0)) (intensityAt none (i + p) es) (getD vs p 0)
-unfolding withEntries
-with-at none w es i [] p h = absurd (not-suc-le-zero h)
-with-at none w es i (v ∷ vs) zero h = rw (add-zero i)
-with-at none w es i (v ∷ vs) (suc p) h =
-    let e : i + suc p ≡ suc i + p = omega arith in
-    rw e (with-at none w es (suc i) vs p (le-of-suc-le-suc h))
-
-pub count-set : (m : ℕ) (xs : List ℕ) (p v : ℕ) → p < length xs → getD xs p 0 ≡ m → (v ≡ m → ⊥) → countOf m xs ≡ suc (countOf m (set xs p v))
-unfolding countOf
-count-set m [] p v h e n = absurd (not-suc-le-zero h)
-count-set m (x ∷ xs) zero v h e n = rw (eq-eqb x m e, ne-eqb v m n)
-count-set m (x ∷ xs) (suc p) v h e n = go (eqb x m) refl (count-set m xs p v (le-of-suc-le-suc h) e n)
-  where
-    go : (t : Bool) → eqb x m ≡ t → countOf m xs ≡ suc (countOf m (set xs p v)) → countOf m (x ∷ xs) ≡ suc (countOf m (x ∷ set xs p v))
-    go true q ih = rw (q, ih)
-    go false q ih = rw (q, ih)
-
--- the pixels when the entries es have come
-abbrev pub held : Width → List ℕ → List Entry → List ℕ
-held w vs es = withEntries waiting w es 0 vs
-
-module _ (w : Width) (vs : List ℕ) (plain : (i : ℕ) → getD vs i 0 < waiting) where
-  -- a good entry, by its parts
-  record Good (es : List Entry) (v p : ℕ) : Type 0 where
-    inside : p < length vs
-    marked : isMarked w (getD vs p 0) ≡ true
-    first : hasEntry p es ≡ false
-
-  good-read : (es : List Entry) (v p : ℕ) → isGood w vs es (E.Read v p) ≡ true → Good es v p
-  unfolding isGood
-  good-read es v p g =
-      let a : markedAt w vs p ≡ true = and-true-left (markedAt w vs p) (not (hasEntry p es)) g in
-      record {
-        inside = ltb-true _ _ (and-true-left (ltb p (length vs)) (isMarked w (getD vs p 0)) a);
-        marked = and-true-right (ltb p (length vs)) (isMarked w (getD vs p 0)) a;
-        first = not-true _ (and-true-right (markedAt w vs p) (not (hasEntry p es)) g);
-      }
-
-  takes-good : (es : List Entry) (e : Entry) → Small es → takes (held w vs es) e ≡ isGood w vs es e
-  unfolding isGood
-  takes-good es E.Malformed s = refl
-  takes-good es (E.Read v p) s = rw (with-length waiting w es 0 vs) (go (ltb p (length vs)) refl)
-    where
-      by-mark : (t : Bool) → isMarked w (getD vs p 0) ≡ t
-          → eqb (if_then_else_ (isMarked w (getD vs p 0)) (intensityAt waiting p es) (getD vs p 0)) waiting ≡ (isMarked w (getD vs p 0) && not (hasEntry p es))
-      by-mark true q = rw q (waits p es s)
-      by-mark false q = rw q (ne-eqb (getD vs p 0) waiting (λ k. omega (arith, plain p)))
-
-      go : (t : Bool) → ltb p (length vs) ≡ t
-          → (ltb p (length vs) && eqb (getD (held w vs es) p 0) waiting) ≡ (ltb p (length vs) && isMarked w (getD vs p 0) && not (hasEntry p es))
-      go false q = rw q
-      go true q = rw (q, with-at waiting w es 0 vs p (ltb-true _ _ q), zero-add p) (by-mark (isMarked w (getD vs p 0)) refl)
-
-  put-at : (es : List Entry) (v p : ℕ) → Good es v p → (j : ℕ) → j < length vs
-      → getD (set (held w vs es) p v) j 0 ≡ getD (held w vs (es ++ (E.Read v p ∷ []))) j 0
-  put-at es v p g j h = go (eqb j p) refl
-    where
-      after : getD (held w vs (es ++ (E.Read v p ∷ []))) j 0
-          ≡ if_then_else_ (isMarked w (getD vs j 0)) (intensityAt (intensityAt waiting j (E.Read v p ∷ [])) j es) (getD vs j 0)
-      after = rw (with-at waiting w (es ++ (E.Read v p ∷ [])) 0 vs j h, zero-add j, intensity-append waiting j es (E.Read v p ∷ []))
-
-      go : (t : Bool) → eqb j p ≡ t → getD (set (held w vs es) p v) j 0 ≡ getD (held w vs (es ++ (E.Read v p ∷ []))) j 0
-      go true q =
-          let e : j ≡ p = eqb-true j p q in
-          let m : isMarked w (getD vs j 0) ≡ true = rw e (g .marked) in
-          let n : hasEntry j es ≡ false = rw e (g .first) in
-          let o : intensityAt waiting j (E.Read v p ∷ []) ≡ v = only-hit j v p q in
-          let l : getD (set (held w vs es) p v) j 0 ≡ v = rw e (getD-set-same (held w vs es) p v 0 (rw with-length (g .inside))) in
-          l ∙ sym (after ∙ rw (m, o) (intensity-none v j es n))
-      go false q =
-          let o : intensityAt waiting j (E.Read v p ∷ []) ≡ waiting = only-miss j v p q in
-          getD-set-other (held w vs es) p j v 0 (eqb-false j p q) ∙ with-at waiting w es 0 vs j h ∙ rw (zero-add j) (sym (after ∙ rw o))
-
-  put-held : (es : List Entry) (e : Entry) → isGood w vs es e ≡ true → put (held w vs es) e ≡ held w vs (es ++ (e ∷ []))
-  unfolding isGood
-  put-held es E.Malformed g = absurd (let y : _≡_ {A = ℕ} 0 1 = cc in omega arith)
-  put-held es (E.Read v p) g =
-      ext-getD 0 (set (held w vs es) p v) (held w vs (es ++ (E.Read v p ∷ []))) (simp (length-set, with-length))
-      (λ j k. put-at es v p (good-read es v p g) j (simp (length-set, with-length) at k))
-
-  -- an entry that comes leaves one mark less
-  count-held : (es : List Entry) (e : Entry) → Small es → intensityOf e < waiting → isGood w vs es e ≡ true
-      → countOf waiting (held w vs es) ≡ suc (countOf waiting (held w vs (es ++ (e ∷ []))))
-  count-held es E.Malformed s z g = absurd (let n : false ≡ true = takes-good es E.Malformed s ∙ g in let y : _≡_ {A = ℕ} 0 1 = cc in omega arith)
-  count-held es (E.Read v p) s z g =
-      let t : takes (held w vs es) (E.Read v p) ≡ true = takes-good es (E.Read v p) s ∙ g in
-      let i : p < length (held w vs es) = ltb-true p (length (held w vs es)) (and-true-left (ltb p (length (held w vs es))) (eqb (getD (held w vs es) p 0) waiting) t) in
-      let q : getD (held w vs es) p 0 ≡ waiting = eqb-true _ _ (and-true-right (ltb p (length (held w vs es))) (eqb (getD (held w vs es) p 0) waiting) t) in
-      rw (← put-held es (E.Read v p) g) (count-set waiting (held w vs es) p v i q (λ k. omega arith))
-
-  pub record Taken (earlier : List Entry) (k : ℕ) (es : List Entry) : Type 0 where
-    pub answer : placing (held w vs earlier) k es ≡ firstBad w vs earlier k es
-    pub pixels : firstBad w vs earlier k es ≡ C.Good → placed (held w vs earlier) es ≡ held w vs (earlier ++ es)
-    pub left : firstBad w vs earlier k es ≡ C.Good → countOf waiting (held w vs earlier) ≡ length es + countOf waiting (held w vs (earlier ++ es))
-
-  -- the loop's answer and pixels are those of the definition, behind any earlier entries
-  pub taken : (es earlier : List Entry) (k : ℕ) → Small earlier → Small es → Taken earlier k es
-  unfolding placing placed firstBad
-  taken [] earlier k s z = record {
-    answer = refl;
-    pixels = λ g. rw (append-nil earlier);
-    left = λ g. rw (append-nil earlier) (omega arith);
-  }
-  taken (e ∷ es) earlier k s z = go (isGood w vs earlier e) refl (taken es (earlier ++ (e ∷ [])) (suc k) (small-append earlier (e ∷ []) s (z .0, tt)) (z .1))
-    where
-      go : (t : Bool) → isGood w vs earlier e ≡ t → Taken (earlier ++ (e ∷ [])) (suc k) es → Taken earlier k (e ∷ es)
-      go true q ih = record {
-        answer = rw (takes-good earlier e s, q, put-held earlier e q) (ih .answer);
-        pixels = λ g. rw (takes-good earlier e s, q, put-held earlier e q, ← append-snoc earlier e es) (ih .pixels (rw q at g));
-        left = λ g. rw (← append-snoc earlier e es) (omega (arith, count-held earlier e s (z .0) q, ih .left (rw q at g)));
-      }
-      go false q ih = record {
-        answer = rw (takes-good earlier e s, q);
-        pixels = λ g. absurd (let b : C.Refused (R.BadEntry k) ≡ C.Good = rw q at g in let y : _≡_ {A = ℕ} 0 1 = cc in omega arith);
-        left = λ g. absurd (let b : C.Refused (R.BadEntry k) ≡ C.Good = rw q at g in let y : _≡_ {A = ℕ} 0 1 = cc in omega arith);
-      }
+entries-apart zero t = tt
+entries-apart (suc n) t = ((λ e. omega (arith, entry-small t)), entries-apart n (drop 16 t))
 
 -- the marks left are the marked pixels without an entry
-wanting-count : (w : Width) (es : List Entry) → Small es → (i : ℕ) (vs : List ℕ) → ((j : ℕ) → getD vs j 0 < waiting)
+wanting-count : (w : Width) (es : List Entry) → Apart waiting es → (i : ℕ) (vs : List ℕ) → ((j : ℕ) → getD vs j 0 < waiting)
     → wanting w es i vs ≡ ltb 0 (countOf waiting (withEntries waiting w es i vs))
 unfolding wanting withEntries countOf
 wanting-count w es s i [] plain = refl
@@ -231,8 +47,8 @@ wanting-count w es s i (v ∷ vs) plain = go (isMarked w v) refl (hasEntry i es)
     go : (m : Bool) → isMarked w v ≡ m → (h : Bool) → hasEntry i es ≡ h
         → wanting w es (suc i) vs ≡ ltb 0 (countOf waiting (withEntries waiting w es (suc i) vs))
         → wanting w es i (v ∷ vs) ≡ ltb 0 (countOf waiting (withEntries waiting w es i (v ∷ vs)))
-    go true q true r ih = rw (q, r, waits i es s, r) ih
-    go true q false r ih = rw (q, r, waits i es s, r) (sym (lt-ltb 0 (suc (countOf waiting (withEntries waiting w es (suc i) vs))) (omega arith)))
+    go true q true r ih = rw (q, r, waits waiting i es s, r) ih
+    go true q false r ih = rw (q, r, waits waiting i es s, r) (sym (lt-ltb 0 (suc (countOf waiting (withEntries waiting w es (suc i) vs))) (omega arith)))
     go false q h r ih = rw (q, ne-eqb v waiting (λ e. omega (arith, plain 0))) ih
 
 -- where none is wanting, no pixel holds a mark
@@ -274,20 +90,20 @@ left-over : (a n l : ℕ) → a ≡ n + l → ltb 0 l ≡ not (eqb a n)
 left-over a n zero e = rw (eq-eqb a n (omega arith))
 left-over a n (suc l) e = rw (ne-eqb a n (λ q. omega arith), lt-ltb 0 (suc l) (omega arith))
 
-module _ (w : Width) (m : ℕ) (same : (v : ℕ) → isMarked w v ≡ eqb v m) (vs : List ℕ) (es : List Entry) (plain : (j : ℕ) → getD vs j 0 < waiting) (small : Small es) where
-  first : Taken w vs plain [] 0 es
-  first = taken w vs plain es [] 0 tt small
+module _ (w : Width) (m : ℕ) (same : (v : ℕ) → isMarked w v ≡ eqb v m) (vs : List ℕ) (es : List Entry) (plain : (j : ℕ) → getD vs j 0 < waiting) (small : Apart waiting es) where
+  first : Taken waiting w vs (λ j q e. omega (arith, plain j)) [] 0 es
+  first = taken waiting w vs (λ j q e. omega (arith, plain j)) es [] 0 tt small
 
-  start : held w vs [] ≡ map (waitingIf m) vs
+  start : held waiting w vs [] ≡ map (waitingIf m) vs
   start = none-yet w m same 0 vs
 
-  marked-answer : placing (map (waitingIf m) vs) 0 es ≡ firstBad w vs [] 0 es
+  marked-answer : placing waiting (map (waitingIf m) vs) 0 es ≡ firstBad w vs [] 0 es
   marked-answer = rw start at (first .answer)
 
   marked-left : firstBad w vs [] 0 es ≡ C.Good → wanting w es 0 vs ≡ not (eqb (countOf m vs) (length es))
   marked-left g = wanting-count w es small 0 vs plain ∙ left-over _ _ _ (rw (start, marks-wait w m same vs plain) at (first .left g))
 
-  marked-pixels : firstBad w vs [] 0 es ≡ C.Good → wanting w es 0 vs ≡ false → placed (map (waitingIf m) vs) es ≡ withEntries 0 w es 0 vs
+  marked-pixels : firstBad w vs [] 0 es ≡ C.Good → wanting w es 0 vs ≡ false → placed waiting (map (waitingIf m) vs) es ≡ withEntries 0 w es 0 vs
   marked-pixels g f = (rw start at (first .pixels g)) ∙ none-wanting w es 0 vs f
 
 four-with : (none : ℕ) (es : List Entry) (i : ℕ) (vs : List ℕ) → withEntries none W.Four es i vs ≡ vs
@@ -321,7 +137,7 @@ four-sound vs (e ∷ es) = record {
     refused : firstBad W.Four vs [] 0 (e ∷ es) ≡ C.Good → ⊥
     refused g = let b : C.Refused (R.BadEntry 0) ≡ C.Good = rw (four-bad vs [] e) at g in let y : _≡_ {A = ℕ} 0 1 = cc in omega arith
 
-pub sound : (w : Width) (vs : List ℕ) (es : List Entry) → ((j : ℕ) → getD vs j 0 < 256 ^ widthBytes w) → Small es → Sound w vs es
+pub sound : (w : Width) (vs : List ℕ) (es : List Entry) → ((j : ℕ) → getD vs j 0 < 256 ^ widthBytes w) → Apart waiting es → Sound w vs es
 sound W.One vs es below small =
     let plain : (j : ℕ) → getD vs j 0 < waiting = λ j. omega (arith, below j) in
     record {
@@ -358,7 +174,7 @@ module _ (w : Width) (image table px₀ px₁ px₂ : List ℕ) (n marks : ℕ) 
 
   whole : Sound w vs es
   unfolding vs es
-  whole = sound w vs es (stored-below (widthBytes w) (length px₀) image bytes) (entries-small n table)
+  whole = sound w vs es (stored-below (widthBytes w) (length px₀) image bytes) (entries-apart n table)
 
   placed-first : checked ≡ firstBad w vs [] 0 es
   unfolding vs es

@@ -17,9 +17,9 @@ use Rattle.lists.proofs.Tests.{and-false, and-true-left, and-true-right}
 use Rattle.lists.proofs.Parts.{drop-take}
 use Rattle.overflow86.specs.declared.Number.{Number}
 use Rattle.overflow86.specs.declared.Number.the-variants as N
-use Rattle.overflow86.specs.declared.Entry.the-variants as E
+use Rattle.marks.specs.declared.Entry.the-variants as E
 use Rattle.overflow86.specs.Entries.{afterSpaces, digitsNumber, textNumber, entryFrom, entryOf, textEntries}
-use Rattle.overflow86.specs.Expand86.{intensityOf}
+use Rattle.marks.specs.Marks.{intensityOf}
 
 -- one law for each way through the loop over the spaces
 module _ (t : List ℕ) (i : ℕ) where

@@ -8,8 +8,8 @@ use Rattle.lists.specs.Choose.{if_then_else_}
 use Rattle.lists.specs.Digits.{allDigits, valueFrom}
 use Rattle.overflow86.specs.declared.Number.{Number}
 use Rattle.overflow86.specs.declared.Number.the-variants as N
-use Rattle.overflow86.specs.declared.Entry.{Entry}
-use Rattle.overflow86.specs.declared.Entry.the-variants as E
+use Rattle.marks.specs.declared.Entry.{Entry}
+use Rattle.marks.specs.declared.Entry.the-variants as E
 
 -- what follows the spaces at the front
 unfoldable pub afterSpaces : List ℕ → List ℕ

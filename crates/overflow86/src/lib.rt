@@ -9,27 +9,18 @@ ghost use Rattle.layout.specs.Form.{widthBytes};
 ghost use Rattle.table.specs.Table.{entries};
 ghost use Rattle.overflow86.specs.Entries.{afterSpaces, digitsNumber, textNumber, entryOf, textEntries};
 ghost use Rattle.overflow86.specs.Expand86.{checkedOf, answerBy, framePixels, textAnswer, textPixels};
-ghost use Rattle.overflow86.specs.Steps.{takes, put, placing, placed, hasMarks, placingIn, placedIn, countOf, marksIn, awaiting, waitingIf, oneIf};
+ghost use Rattle.marks.specs.Steps.{placing, placed, countOf};
+ghost use Rattle.overflow86.specs.Steps.{waiting, hasMarks, placingIn, placedIn, marksIn, awaiting, waitingIf, oneIf};
 use layout::Image;
 use layout::Width;
+use marks::Checked;
+use marks::Entry;
 use refusal::Refusal;
 
 // A number of an entry.
 pub enum Number {
     Value(u32),
     Malformed,
-}
-
-// An entry of the table.
-pub enum Entry {
-    Read { intensity: u32, pixel: u32 },
-    Malformed,
-}
-
-// Whether the entries may stand.
-pub enum Checked {
-    Good,
-    Refused(Refusal),
 }
 
 // The place where the frame ends, or why there is none.
@@ -100,37 +91,18 @@ fn entry_at(table: &[u8], at: usize) -> Entry
     Entry::Read { intensity, pixel }
 }
 
-// Puts an entry's intensity into its pixel, if that waits for it.
-fn place_entry(e: Entry, pixels: &mut [u32]) -> bool
-    ensures { λ r. ⌜ r ≡ takes (now (pixels .entry)) e ⌝ }
-    ensures { λ r. ⌜ now (pixels .exit) ≡ if_then_else_ (takes (now (pixels .entry)) e) (put (now (pixels .entry)) e) (now (pixels .entry)) ⌝ }
-{
-    let Entry::Read { intensity, pixel } = e else {
-        return false;
-    };
-    let p = pixel as usize;
-    if pixels.len() <= p {
-        return false;
-    }
-    if pixels[p] != 4294967295 {
-        return false;
-    }
-    pixels[p] = intensity;
-    true
-}
-
 // Takes the n entries of the table in file order; the first bad one decides.
 fn place_entries(table: &[u8], n: u32, pixels: &mut [u32]) -> Checked
     requires { ⌜ n * 16 ≤ length (now table) ⌝ }
-    ensures { λ r. ⌜ r ≡ placing (now (pixels .entry)) 0 (textEntries n (now (table .entry))) ⌝ }
-    ensures { λ _. ⌜ now (pixels .exit) ≡ placed (now (pixels .entry)) (textEntries n (now (table .entry))) ⌝ }
+    ensures { λ r. ⌜ r ≡ placing waiting (now (pixels .entry)) 0 (textEntries n (now (table .entry))) ⌝ }
+    ensures { λ _. ⌜ now (pixels .exit) ≡ placed waiting (now (pixels .entry)) (textEntries n (now (table .entry))) ⌝ }
 {
     let mut checked = Checked::Good;
     let mut k: u32 = 0;
     while k < n {
         let at = k as usize * 16;
         let e = entry_at(table, at);
-        if place_entry(e, pixels) {
+        if marks::place_entry(e, 4294967295, pixels) {
             k += 1;
         } else {
             checked = Checked::Refused(Refusal::BadEntry { entry: k });

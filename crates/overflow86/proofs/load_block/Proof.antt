@@ -1,7 +1,8 @@
 use mathlib.Core.Path.{ap, _∙_}
 use mathlib.Core.List.{map}
 use borrow.Author.Needs.{needs}
-use Rattle.overflow86.specs.Steps.{countOf, waitingIf}
+use Rattle.marks.specs.Steps.{countOf}
+use Rattle.overflow86.specs.Steps.{waitingIf}
 use Rattle.overflow86.proofs.Laws.{loaded}
 use Rattle.overflow86.proofs.Blocks.{unmarked}
 use Rattle.overflow86.proofs.load_block.Statement.{statement}

@@ -1,21 +1,22 @@
-use mathlib.Core.Path.{_≡_, refl, _∙_}
+use mathlib.Core.Path.{_≡_, refl, sym, _∙_}
 use Prim.Native.Nat.{_-_}
 use native.Mathlib.Omega.{arith}
-use Rattle.overflow86.specs.declared.Checked.the-variants as C
+use Rattle.marks.specs.declared.Checked.the-variants as C
 use Rattle.overflow86.specs.Entries.{textEntries}
-use Rattle.overflow86.proofs.Texts.{entries-length}
-use Rattle.overflow86.proofs.Loops.{Placing, placing-start, placing-end, turn-taken, turn-refused, after-length}
+use Rattle.overflow86.specs.Steps.{waiting}
+use Rattle.marks.proofs.Loops.{Placing, placing-start, placing-end, turn-taken, turn-refused, after-length}
+use Rattle.overflow86.proofs.Texts.{entries-length, entries-at}
 use Rattle.overflow86.proofs.place_entries.Statement.{statement}
 use Rattle.overflow86.proofs.place_entries.Tie as tie
 
 abbrev Inv-loop : tie.InvT-loop
-Inv-loop table n pixels₀ checked₀ k₀ pixels checked k = (checked ≡ C.Good) × Placing pixels₀ pixels (textEntries n table) k
+Inv-loop table n pixels₀ checked₀ k₀ pixels checked k = (checked ≡ C.Good) × Placing waiting pixels₀ pixels (textEntries n table) k
 
 abbrev μ-loop : tie.MeasureT-loop
 μ-loop table n pixels₀ checked₀ k₀ pixels checked k = n - k
 
 loop-holds : tie.Need-loop-holds Inv-loop μ-loop
-loop-holds c = (refl, placing-start _ _)
+loop-holds c = (refl, placing-start _ _ _)
 
 cast-at : tie.Need-cast-at Inv-loop μ-loop
 cast-at c = omega arith
@@ -38,7 +39,7 @@ loop-less c = omega arith
 loop-again : tie.Need-loop-again Inv-loop μ-loop
 loop-again c =
     let p = c .before .before .before .place-entry .ensures in
-    (c .before .before .before .before .before .before .before .loop .inv .0, turn-taken _ _ (c .before .before .before .before .before .before .before .loop .inv .1) (c .before .before .before .before .before .before .loop-test .taken) _ _ _ (c .before .before .before .before .before .entry-at .ensures) (p .0) (p .1) (c .if1 .taken))
+    (c .before .before .before .before .before .before .before .loop .inv .0, turn-taken (c .before .before .before .before .before .before .before .loop .inv .1) (rw entries-length (c .before .before .before .before .before .before .loop-test .taken)) _ _ _ (entries-at _ _ _ (c .before .before .before .before .before .before .loop-test .taken) ∙ sym (c .before .before .before .before .before .entry-at .ensures)) (p .0) (p .1) (c .if1 .taken))
 
 same-length : tie.Need-same-length Inv-loop μ-loop
 same-length c = c .before .loop .inv .1 .same
@@ -51,12 +52,12 @@ returns c =
 same-length-2 : tie.Need-same-length-2 Inv-loop μ-loop
 same-length-2 c =
     let p = c .before .before .before .place-entry .ensures in
-    after-length (c .before .before .before .before .before .before .before .loop .pixels) (c .before .before .before .before .before .entry-at .result) _ (p .1) ∙ c .before .before .before .before .before .before .before .loop .inv .1 .same
+    after-length waiting (c .before .before .before .before .before .before .before .loop .pixels) (c .before .before .before .before .before .entry-at .result) _ (p .1) ∙ c .before .before .before .before .before .before .before .loop .inv .1 .same
 
 returns-2 : tie.Need-returns-2 Inv-loop μ-loop
 returns-2 c =
     let p = c .before .before .before .place-entry .ensures in
-    turn-refused _ _ (c .before .before .before .before .before .before .before .loop .inv .1) (c .before .before .before .before .before .before .loop-test .taken) _ _ _ (c .before .before .before .before .before .entry-at .ensures) (p .0) (p .1) (c .if1 .left)
+    turn-refused (c .before .before .before .before .before .before .before .loop .inv .1) (rw entries-length (c .before .before .before .before .before .before .loop-test .taken)) _ _ _ (entries-at _ _ _ (c .before .before .before .before .before .before .loop-test .taken) ∙ sym (c .before .before .before .before .before .entry-at .ensures)) (p .0) (p .1) (c .if1 .left)
 
 pub place-entries-spec : {M : Type 1} → statement M
 place-entries-spec =
