@@ -1,0 +1,2 @@
+pub mod Plate
+pub mod MarHeader
