@@ -28,11 +28,18 @@ use Rattle.archive.specs.declared.OpenAnswer.{OpenAnswer}
 use Rattle.archive.specs.declared.OpenAnswer.the-variants as O
 use Rattle.listing.specs.declared.ListAnswer.{ListAnswer}
 use Rattle.listing.specs.declared.ListAnswer.the-variants as I
+use Rattle.mar_entry.specs.declared.EntryValue.{EntryValue}
+use Rattle.mar_entry.specs.declared.EntryValue.the-variants as EV
+use Rattle.mar_entry.specs.declared.MarEntryAnswer.{MarEntryAnswer}
+use Rattle.mar_entry.specs.declared.MarEntryAnswer.the-variants as E
+use Rattle.mar_image.specs.declared.MarAnswer.{MarAnswer}
+use Rattle.mar_image.specs.declared.MarAnswer.the-variants as M
 use Rattle.quayrudder.specs.declared.ReadResult.{ReadResult}
 use Rattle.quayrudder.specs.declared.OpenResult.{OpenResult}
 use Rattle.quayrudder.specs.declared.WriteResult.{WriteResult}
 use Rattle.quayrudder.specs.declared.LedgerResult.{LedgerResult}
 use Rattle.quayrudder.specs.declared.ListResult.{ListResult}
+use Rattle.quayrudder.specs.declared.MarEntryResult.{MarEntryResult}
 
 -- a refusal's number, and its header line or entry
 abbrev pub readRefused : Refusal → ReadResult
@@ -49,6 +56,21 @@ abbrev pub readResult : ReadAnswer → ReadResult
 readResult (R.Frame rows columns end) =
     record { refusal = 0; place = 0; column = 0; rows = rows; columns = columns; end = end }
 readResult (R.Refused r) = readRefused r
+
+-- a plate is square
+abbrev pub marReadResult : MarAnswer → ReadResult
+marReadResult (M.Plate side end) =
+    record { refusal = 0; place = 0; column = 0; rows = side; columns = side; end = end }
+marReadResult (M.Refused r) = readRefused r
+
+-- an entry's bits as stored, and whether they are a float's
+abbrev pub valueResult : EntryValue → MarEntryResult
+valueResult (EV.Whole bits) = record { refusal = 0; «is_float» = 0; bits = bits }
+valueResult (EV.Float bits value) = record { refusal = 0; «is_float» = 1; bits = bits }
+
+abbrev pub marEntryResult : MarEntryAnswer → MarEntryResult
+marEntryResult (E.Value v) = valueResult v
+marEntryResult (E.Refused r) = record { refusal = refusalNumber r; «is_float» = 0; bits = 0 }
 
 -- underflow 0 is kind none, 1 and 2 the baseline subtracted with entries of that many bytes; any other number is no form
 abbrev pub form : Width → Underflow → Form

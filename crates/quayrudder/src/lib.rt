@@ -10,6 +10,9 @@ use layout::WidthAnswer;
 use ledger::LedgerAnswer;
 use ledger::PurgeAnswer;
 use listing::ListAnswer;
+use mar_entry::EntryValue;
+use mar_entry::MarEntryAnswer;
+use mar_image::MarAnswer;
 use reader::ReadAnswer;
 use refusal::Refusal;
 use writer::AskedForm;
@@ -22,9 +25,11 @@ ghost use Rattle.reader.specs.Reader.{readAnswer, readPixels};
 ghost use Rattle.ledger.specs.Ledger.{keepAnswer, keepBytes, purgeAnswer};
 ghost use Rattle.listing.specs.Listing.{listAnswer, listBytes};
 ghost use Rattle.writer.specs.Writer.{writeAnswer, writeBytes};
+ghost use Rattle.mar_image.specs.MarImage.{marAnswer, marPixels};
+ghost use Rattle.mar_entry.specs.Entry.{entryOf};
 ghost use Rattle.archive.specs.Open.{openAnswer, openPixels, openHeld};
 ghost use Rattle.archive.specs.Calls.{correctOutcome, withdrawOutcome};
-ghost use Rattle.quayrudder.specs.Answers.{readRefused, readResult, asForm, askedForm, writeResult, notOpened, openResult, ledgerResult, purgeResult, date, listResult};
+ghost use Rattle.quayrudder.specs.Answers.{readRefused, readResult, asForm, askedForm, writeResult, notOpened, openResult, ledgerResult, purgeResult, date, listResult, marReadResult, valueResult, marEntryResult};
 
 // refusal is 0 where the call is accepted. Every field that a case does not name is 0.
 #[repr(C)]
@@ -66,6 +71,13 @@ pub struct LedgerResult {
 pub struct ListResult {
     pub short: u32,
     pub length: u64,
+}
+
+#[repr(C)]
+pub struct MarEntryResult {
+    pub refusal: u32,
+    pub is_float: u32,
+    pub bits: u32,
 }
 
 // What the header of a frame says.
@@ -113,6 +125,69 @@ pub extern "C" fn qr_read(frame: &[u8], pixels: &mut [u32]) -> ReadResult
     ensures { λ _. ⌜ now (pixels .exit) ≡ readPixels (now (frame .entry)) (now (pixels .entry)) ⌝ }
 {
     read_result(reader::read(frame, pixels))
+}
+
+fn mar_read_result(answer: MarAnswer) -> ReadResult
+    ensures { λ r. ⌜ r ≡ marReadResult answer ⌝ }
+{
+    match answer {
+        MarAnswer::Plate { side, end } => ReadResult {
+            refusal: 0,
+            place: 0,
+            column: 0,
+            rows: side,
+            columns: side,
+            end,
+        },
+        MarAnswer::Refused(r) => read_refused(r),
+    }
+}
+
+// Reads an uncompressed mar image plate.
+#[no_mangle]
+pub extern "C" fn qr_mar_read(file: &[u8], pixels: &mut [u32]) -> ReadResult
+    ensures { λ r. ⌜ r ≡ marReadResult (marAnswer (now (file .entry)) (length (now (pixels .entry)))) ⌝ }
+    ensures { λ _. ⌜ now (pixels .exit) ≡ marPixels (now (file .entry)) (now (pixels .entry)) ⌝ }
+{
+    mar_read_result(mar_image::read(file, pixels))
+}
+
+fn value_result(value: EntryValue) -> MarEntryResult
+    ensures { λ r. ⌜ r ≡ valueResult value ⌝ }
+{
+    match value {
+        EntryValue::Whole(bits) => MarEntryResult {
+            refusal: 0,
+            is_float: 0,
+            bits,
+        },
+        EntryValue::Float { bits, value: _ } => MarEntryResult {
+            refusal: 0,
+            is_float: 1,
+            bits,
+        },
+    }
+}
+
+fn mar_entry_result(answer: MarEntryAnswer) -> MarEntryResult
+    ensures { λ r. ⌜ r ≡ marEntryResult answer ⌝ }
+{
+    match answer {
+        MarEntryAnswer::Value(v) => value_result(v),
+        MarEntryAnswer::Refused(r) => MarEntryResult {
+            refusal: refusal::number_of(r),
+            is_float: 0,
+            bits: 0,
+        },
+    }
+}
+
+// One of the 25 entries of a mar header record, its bits as stored.
+#[no_mangle]
+pub extern "C" fn qr_mar_entry(file: &[u8], entry: u32) -> MarEntryResult
+    ensures { λ r. ⌜ r ≡ marEntryResult (entryOf (now (file .entry)) entry) ⌝ }
+{
+    mar_entry_result(mar_entry::read_entry(file, entry))
 }
 
 fn as_form(width: Width, underflow: u32) -> AskedForm
