@@ -135,7 +135,7 @@ impl Case {
                 Mutation::Resize(target, length) => {
                     case.bytes_mut(*target).resize(*length, 0);
                 }
-                Mutation::Pixels(length) => case.pixels.resize(*length, 7),
+                Mutation::Pixels(length) => case.pixels.resize(*length, 65535),
             }
         }
         case

@@ -2,8 +2,8 @@
 use crate::case::{Call, Case};
 use crate::compare::{self, Outcome};
 use crate::fault::Fault;
-use crate::mar::{Order, MARK, ORDERS, PAIR, SIDES};
-use crate::plate::Plate;
+use crate::mar::{Order, MARK, PAIR};
+use crate::plate::{self, Plate};
 use std::rc::Rc;
 
 const EXPECTED: &str = include_str!("../mar_trials.txt");
@@ -52,7 +52,7 @@ fn header(plate: Plate, pairs: u32) -> Vec<u8> {
     let mut entries = plate.lead(pairs).to_vec();
     entries[3] = 0xDEAD_BEEF;
     entries.extend(REST);
-    plate.header(&entries, 0xDD)
+    plate.header(&entries, 0xFF)
 }
 
 impl Image {
@@ -126,7 +126,7 @@ impl Image {
 /// What is done to an image with one record of pairs and one pair more.
 type Change = fn(&mut Image);
 
-const CHANGES: [(&str, Change); 60] = [
+const CHANGES: [(&str, Change); 61] = [
     ("no bytes", |i| i.length(0)),
     ("three bytes", |i| i.length(3)),
     ("first number 0", |i| i.entry(1, 0)),
@@ -208,6 +208,11 @@ const CHANGES: [(&str, Change); 60] = [
     ("address past the last pixel in pair 1", |i| {
         i.address(1, i.pixels() + 1)
     }),
+    ("pair 0 at pixel 65535, pair 1 past the last pixel", |i| {
+        i.pixel(65535, MARK);
+        i.address(0, 65535);
+        i.address(1, i.pixels() + 1);
+    }),
     ("address 4294967295 in pair 2", |i| i.address(2, u32::MAX)),
     ("pixel 65534 under pair 3", |i| {
         i.pixel(i.pixels() - 3000, 65534)
@@ -277,7 +282,7 @@ fn array_words(before: &[u32], after: &[u32], pixels: usize) -> String {
 fn read_line(name: &str, image: Image) -> String {
     let mut case = Case::of(Call::MarRead);
     case.frame = image.file;
-    case.pixels = (0..image.places as u32).map(|place| !place).collect();
+    case.pixels = image.plate.array(image.places);
     let (outcome, note) = both(&case);
     let array = array_words(&case.pixels, &outcome.after.pixels, image.plate.pixels());
     format!(
@@ -340,9 +345,7 @@ fn entry_lines(plate: Plate) -> Vec<String> {
 }
 
 fn lines() -> impl Iterator<Item = String> {
-    let sides = SIDES.map(|side| side as usize).into_iter();
-    let plates = sides.flat_map(|side| ORDERS.map(|order| Plate { order, side }));
-    let accepted = plates.flat_map(|plate| {
+    let accepted = plate::kinds().into_iter().flat_map(|plate| {
         let pairs = [0, 1, 300, 301, 500, 501].into_iter();
         pairs.map(move |n| read_line(&format!("{n} pairs"), Image::new(plate, n)))
     });

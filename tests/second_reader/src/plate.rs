@@ -1,10 +1,17 @@
 //! mar images made to order, part by part.
-use crate::mar::{Order, PAIR};
+use crate::mar::{Order, MARK, ORDERS, PAIR, SIDES};
 
 #[derive(Clone, Copy, Debug)]
 pub struct Plate {
     pub order: Order,
     pub side: usize,
+}
+
+/// Each size in each byte order.
+pub fn kinds() -> Vec<Plate> {
+    let sides = SIDES.map(|side| side as usize);
+    let of_side = |side| ORDERS.map(|order| Plate { order, side });
+    sides.into_iter().flat_map(of_side).collect()
 }
 
 impl Plate {
@@ -20,6 +27,13 @@ impl Plate {
     /// Where the image ends and the pairs start.
     pub fn image_end(self) -> usize {
         (1 + self.side) * self.record()
+    }
+
+    /// An array to lend: other numbers than the image's, and behind it places that look like pixels that may have a pair.
+    pub fn array(self, places: usize) -> Vec<u32> {
+        let pixels = self.pixels() as u32;
+        let place = |at: u32| if at < pixels { !at } else { MARK.into() };
+        (0..places as u32).map(place).collect()
     }
 
     pub fn pairs_per_record(self) -> usize {

@@ -1,8 +1,8 @@
 //! Cases of mar images: whole ones kept from case to case, headers with little behind them, and the damage done to both.
 use crate::case::{Call, Case, Mutation, Target};
 use crate::generate::{any_bytes, Made};
-use crate::mar::{MARK, ORDERS, PAIR, SIDES};
-use crate::plate::Plate;
+use crate::mar::{MARK, PAIR};
+use crate::plate::{kinds, Plate};
 use crate::random::Random;
 use std::rc::Rc;
 
@@ -27,12 +27,6 @@ struct Whole {
 /// One image for each size and byte order.
 pub struct Plates(Vec<Whole>);
 
-fn kinds() -> Vec<Plate> {
-    let sides = SIDES.map(|side| side as usize);
-    let of_side = |side| ORDERS.map(|order| Plate { order, side });
-    sides.into_iter().flat_map(of_side).collect()
-}
-
 fn stored(random: &mut Random) -> u16 {
     let any = random.next() as u16;
     random.pick(&[any, any, any & 0xFF, 0, 1, 255, 256, MARK - 1])
@@ -56,7 +50,8 @@ fn header(random: &mut Random, plate: Plate, pairs: u32) -> Vec<u8> {
     let mut entries = plate.lead(pairs).to_vec();
     entries[3] = bits(random);
     entries.extend((6..25).map(|_| bits(random)));
-    plate.header(&entries, random.byte())
+    let fill = random.byte();
+    plate.header(&entries, random.pick(&[fill, 0xFF]))
 }
 
 impl Whole {
@@ -75,7 +70,7 @@ impl Whole {
         let mut file = vec![0; plate.record()];
         file.extend(image.iter().flat_map(|value| plate.pixel(*value)));
         case.frame = file.into();
-        case.pixels = (0..(pixels + SPARE) as u32).map(|at| !at).collect();
+        case.pixels = plate.array(pixels + SPARE);
         Whole {
             plate,
             marked,
@@ -127,13 +122,13 @@ impl Whole {
         let place = random.pick(&[0, last, plate.pairs_per_record().min(last), any]);
         let at = plate.image_end() + PAIR * place;
         let pixels = plate.pixels() as u32;
-        let near = [0, 1, pixels - 1, pixels, pixels + 1, u32::MAX, 1 << 31];
+        let near = [0, 1, pixels, pixels + 1, u32::MAX];
         let pixel = 1 + random.index(plate.pixels()) as u32;
         let other = self.pairs[random.index(self.pairs.len())].0;
         let edge = random.pick(&near);
         let address = random.pick(&[edge, edge, pixel, other, other]);
         let low = random.below(1 << 17) as u32;
-        let count = random.pick(&[0, 1, 65534, 65535, 65536, u32::MAX, low, low]);
+        let count = random.pick(&[65535, 65535, 65536, 65536, low, 0]);
         let (at, value) = random.pick(&[(at, address), (at + 4, count)]);
         Mutation::Patch(Target::Frame, at, plate.number(value).to_vec())
     }
