@@ -1,11 +1,12 @@
 # Daily work. `make test` is the gate; the rest eases the way there.
 .PHONY: test toolchain check must-fail fmt dev skeletons paths staticlib bench bench-docs clean
-.PHONY: deps-rust deps-peers deps-bench second-reader compare compare-short soak faults peers compare-frames
+.PHONY: deps-rust deps-peers deps-bench second-reader compare compare-short soak mar-trials faults peers compare-frames
 .PHONY: deps cli cli-test demo
 
 # What the gate runs after the proofs, in this order: targets of this file, one more line each.
 AFTER_PROOFS += staticlib
 AFTER_PROOFS += compare-short
+AFTER_PROOFS += mar-trials
 AFTER_PROOFS += cli-test
 
 # The whole gate: every crate proved from nothing, every must-fail edit refused, every program's output compared; then the rest
@@ -71,7 +72,9 @@ deps-bench: deps-peers
 
 # The comparison with the second reader (tests/second_reader), over the static library.
 SECOND_READER := target/second_reader/release/second_reader
-COMPARE = $(SECOND_READER) compare $(if $(SEED),--seed $(SEED)) --case target/difference.case
+# For glibc: memory of large cases is used again and not given back after each.
+KEEP_MEMORY := MALLOC_MMAP_THRESHOLD_=33554432 MALLOC_TRIM_THRESHOLD_=1073741824
+COMPARE = $(KEEP_MEMORY) $(SECOND_READER) compare $(if $(SEED),--seed $(SEED)) --case target/difference.case
 MINUTES ?= 10
 
 second-reader: deps-rust staticlib
@@ -88,6 +91,10 @@ compare-short: second-reader
 # make soak MINUTES=10: the same for longer.
 soak: second-reader
 	$(COMPARE) --seconds $$(( $(MINUTES) * 60 ))
+
+# Fixed mar images against the answers written down in tests/second_reader/mar_trials.txt.
+mar-trials: second-reader
+	$(KEEP_MEMORY) $(SECOND_READER) mar-trials
 
 # Three deliberate faults in copies of the library, which the comparison has to find.
 faults: deps-rust

@@ -77,6 +77,15 @@ pub struct ListAnswer {
     pub length: u64,
 }
 
+/// One entry of a mar image's header: a whole number, or a float where `is_float` is 1, as its 32 bits are stored.
+#[repr(C)]
+#[derive(Clone, Copy, Debug, PartialEq, Eq)]
+pub struct MarEntryAnswer {
+    pub refusal: u32,
+    pub is_float: u32,
+    pub bits: u32,
+}
+
 /// A pixel width of 1, 2 or 4 bytes, and 0 for underflow kind none or the bytes of an underflow entry.
 #[derive(Clone, Copy, Debug, PartialEq, Eq)]
 pub struct Form {
@@ -92,7 +101,7 @@ pub struct Date {
 }
 
 mod c {
-    use super::{HeaderAnswer, LedgerAnswer, ListAnswer, OpenAnswer, ReadAnswer, WriteAnswer};
+    use super::{HeaderAnswer, LedgerAnswer, ListAnswer, MarEntryAnswer, OpenAnswer, ReadAnswer, WriteAnswer};
 
     #[rustfmt::skip]
     extern "C" {
@@ -120,6 +129,8 @@ mod c {
         ) -> u32;
         pub fn qr_header(frame: *const u8, frame_len: usize) -> HeaderAnswer;
         pub fn qr_list(ledger: *const u8, ledger_len: usize, out: *mut u8, out_len: usize) -> ListAnswer;
+        pub fn qr_mar_read(file: *const u8, file_len: usize, pixels: *mut u32, pixels_len: usize) -> ReadAnswer;
+        pub fn qr_mar_entry(file: *const u8, file_len: usize, entry: u32) -> MarEntryAnswer;
     }
 }
 
@@ -182,4 +193,14 @@ pub fn list_room(ledger_len: usize) -> usize {
 pub fn list(ledger: &[u8], out: &mut [u8]) -> ListAnswer {
     let n = out.len();
     unsafe { c::qr_list(ledger.as_ptr(), ledger.len(), out.as_mut_ptr(), n) }
+}
+
+/// Reads an uncompressed mar image.
+pub fn mar_read(file: &[u8], pixels: &mut [u32]) -> ReadAnswer {
+    unsafe { c::qr_mar_read(file.as_ptr(), file.len(), pixels.as_mut_ptr(), pixels.len()) }
+}
+
+/// The header entry of a mar image with this number, from 1 to 25.
+pub fn mar_entry(file: &[u8], entry: u32) -> MarEntryAnswer {
+    unsafe { c::qr_mar_entry(file.as_ptr(), file.len(), entry) }
 }

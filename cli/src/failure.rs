@@ -1,5 +1,5 @@
 //! Why a command did not do what it was asked: what is said, and the exit status.
-use crate::refusals::sentence;
+use crate::refusals::{sentence, Sentence};
 use serde_json::{json, Value};
 use std::fmt::{self, Display, Formatter};
 use std::io;
@@ -21,6 +21,7 @@ pub struct Refused {
     pub column: u32,
     /// What was found in this file, where there is more to say than the refusal's own sentence.
     pub note: String,
+    pub said: &'static Sentence,
 }
 
 #[derive(Debug)]
@@ -45,7 +46,8 @@ pub enum Failure {
 
 impl Failure {
     pub fn refused(file: &Path, number: u32) -> Failure {
-        Failure::Refused(Refused { file: file.into(), number, place: 0, column: 0, note: String::new() })
+        let (file, said) = (file.into(), sentence(number));
+        Failure::Refused(Refused { file, number, place: 0, column: 0, note: String::new(), said })
     }
 
     pub fn declined(file: &Path, why: impl Into<String>) -> Failure {
@@ -89,21 +91,19 @@ impl Failure {
 
 impl Refused {
     fn json(&self) -> Value {
-        let said = sentence(self.number);
         json!({
             "file": shown(&self.file), "refusal": self.number, "place": self.place, "column": self.column,
-            "meaning": said.meaning, "found": self.note, "advice": said.advice,
+            "meaning": self.said.meaning, "found": self.note, "advice": self.said.advice,
         })
     }
 }
 
 impl Display for Refused {
     fn fmt(&self, f: &mut Formatter) -> fmt::Result {
-        let said = sentence(self.number);
-        write!(f, "{}: refusal {}: {}", shown(&self.file), self.number, said.meaning)?;
+        write!(f, "{}: refusal {}: {}", shown(&self.file), self.number, self.said.meaning)?;
         match self.note.as_str() {
-            "" => write!(f, ". {}", said.advice),
-            note => write!(f, " ({note}). {}", said.advice),
+            "" => write!(f, ". {}", self.said.advice),
+            note => write!(f, " ({note}). {}", self.said.advice),
         }
     }
 }

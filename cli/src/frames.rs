@@ -1,19 +1,26 @@
-//! The commands on frames: info, expand, view, write.
+//! The commands on frames and mar images: info, expand, view; and on frames alone: write.
 use crate::args::{Expand, View, Write};
 use crate::failure::{shown, Failure, Outcome, Refused};
 use crate::files;
+use crate::mar;
 use crate::output::Output;
 use crate::pixels::{self, Counts, Given};
-use quayrudder::{Form, HeaderAnswer};
+use crate::refusals::sentence;
+use quayrudder::{Form, HeaderAnswer, ReadAnswer};
 use serde_json::{json, Value};
 use std::path::{Path, PathBuf};
 
-/// A frame that the library accepts.
+/// A frame or a mar image that the library accepts.
 struct Frame {
-    header: HeaderAnswer,
+    kind: Kind,
     counts: Counts,
     length: u64,
     end: u64,
+}
+
+enum Kind {
+    Bruker(HeaderAnswer),
+    Mar(mar::Entries),
 }
 
 /// An accepted header, or its refusal.
@@ -30,9 +37,10 @@ pub fn refused(file: &Path, bytes: &[u8], number: u32, place: u32, column: u32) 
     let note = match number {
         3 => format!("header line {place} has `{}`", line_text(bytes, place as usize)),
         13 => format!("entry {place}, counted from 0"),
+        _ if mar::is_mar(bytes) => "this is a mar image, which only `info`, `view` and `expand` take".to_string(),
         _ => String::new(),
     };
-    Failure::Refused(Refused { file: file.into(), number, place, column, note })
+    Failure::Refused(Refused { file: file.into(), number, place, column, note, said: sentence(number) })
 }
 
 fn line_text(bytes: &[u8], line: usize) -> String {
@@ -52,24 +60,49 @@ pub fn most_bytes(header: &HeaderAnswer) -> usize {
 
 fn read(file: &Path) -> Outcome<Frame> {
     let bytes = files::read(file)?;
-    let header = header(file, &bytes)?;
-    let mut pixels = vec![0; pixel_count(&header)];
-    let answer = quayrudder::read(&bytes, &mut pixels);
-    if answer.refusal != 0 {
-        return Err(refused(file, &bytes, answer.refusal, answer.place, answer.column));
-    }
+    let (kind, pixels, answer) = if mar::is_mar(&bytes) { read_mar(file, &bytes)? } else { read_bruker(file, &bytes)? };
     let counts = Counts { rows: answer.rows, columns: answer.columns, pixels };
-    Ok(Frame { header, counts, length: bytes.len() as u64, end: answer.end })
+    Ok(Frame { kind, counts, length: bytes.len() as u64, end: answer.end })
+}
+
+fn read_bruker(file: &Path, bytes: &[u8]) -> Outcome<(Kind, Vec<u32>, ReadAnswer)> {
+    let header = header(file, bytes)?;
+    let mut pixels = vec![0; pixel_count(&header)];
+    let answer = quayrudder::read(bytes, &mut pixels);
+    match answer.refusal {
+        0 => Ok((Kind::Bruker(header), pixels, answer)),
+        number => Err(refused(file, bytes, number, answer.place, answer.column)),
+    }
+}
+
+fn read_mar(file: &Path, bytes: &[u8]) -> Outcome<(Kind, Vec<u32>, ReadAnswer)> {
+    let entries = mar::entries(file, bytes)?;
+    let mut pixels = vec![0; entries.pixel_count()];
+    let answer = quayrudder::mar_read(bytes, &mut pixels);
+    match answer.refusal {
+        0 => Ok((Kind::Mar(entries), pixels, answer)),
+        number => Err(mar::refused(file, number, answer.place)),
+    }
 }
 
 pub fn info(output: &mut Output, frames: &[PathBuf]) -> Outcome<()> {
     for file in frames {
         match read(file) {
-            Ok(frame) => output.say(&info_text(file, &frame), &info_value(file, &frame))?,
+            Ok(frame) => say_info(output, file, &frame)?,
             Err(failure) => output.failed(&failure)?,
         }
     }
     Ok(())
+}
+
+fn say_info(output: &mut Output, file: &Path, frame: &Frame) -> Outcome<()> {
+    let Frame { end, length, .. } = *frame;
+    match &frame.kind {
+        Kind::Bruker(header) => {
+            output.say(&info_text(file, header, end, length), &info_value(file, header, end, length))
+        }
+        Kind::Mar(entries) => output.say(&entries.text(file, end, length), &entries.value(file, end, length)),
+    }
 }
 
 /// A form as it is asked for: `2`, or `1+2`.
@@ -80,8 +113,7 @@ pub fn form_text(width: u32, underflow: u32) -> String {
     }
 }
 
-fn info_text(file: &Path, frame: &Frame) -> String {
-    let h = &frame.header;
+fn info_text(file: &Path, h: &HeaderAnswer, end: u64, length: u64) -> String {
     let baseline = match h.subtracted {
         0 => "no baseline".to_string(),
         _ => format!("baseline {} subtracted", h.baseline),
@@ -96,18 +128,17 @@ fn info_text(file: &Path, frame: &Frame) -> String {
     let name = shown(file);
     format!(
         "{name}: FORMAT {}, {} rows, {} columns, {form}\n  entries: {entries}\n  header {} bytes, frame ends at byte {} of {}",
-        h.format, h.rows, h.columns, h.start, frame.end, frame.length,
+        h.format, h.rows, h.columns, h.start, end, length,
     )
 }
 
-fn info_value(file: &Path, frame: &Frame) -> Value {
-    let h = &frame.header;
+fn info_value(file: &Path, h: &HeaderAnswer, end: u64, length: u64) -> Value {
     json!({
         "file": shown(file), "format": h.format, "rows": h.rows, "columns": h.columns,
         "width": h.width, "underflow_width": h.entry, "baseline_subtracted": h.subtracted == 1, "baseline": h.baseline,
         "overflow_entries": h.entries, "underflow_entries": h.underflows,
         "two_byte_entries": h.two, "four_byte_entries": h.four,
-        "header_bytes": h.start, "end": frame.end, "bytes": frame.length,
+        "header_bytes": h.start, "end": end, "bytes": length,
     })
 }
 

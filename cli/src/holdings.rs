@@ -7,6 +7,7 @@ use crate::holding::{Asked, Holding};
 use crate::ledger::{self, Entry, Lent, Line};
 use crate::output::Output;
 use crate::redo::Change;
+use crate::refusals::sentence;
 use quayrudder::Date;
 use serde_json::{json, Value};
 use std::path::{Path, PathBuf};
@@ -96,7 +97,8 @@ fn accepted(holding: &Holding, refusal: u32, ledger: &[u8]) -> Outcome<()> {
         20 => (&holding.ledger, ledger::length_note(ledger)),
         _ => (&holding.name, String::new()),
     };
-    Err(Failure::Refused(Refused { file: file.clone(), number: refusal, place: 0, column: 0, note }))
+    let (file, said) = (file.clone(), sentence(refusal));
+    Err(Failure::Refused(Refused { file, number: refusal, place: 0, column: 0, note, said }))
 }
 
 /// Says the line that was appended.

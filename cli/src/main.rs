@@ -9,6 +9,7 @@ mod holding;
 mod holdings;
 mod ledger;
 mod locks;
+mod mar;
 mod output;
 mod pixels;
 mod redo;

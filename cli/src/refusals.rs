@@ -1,5 +1,6 @@
 //! What each refusal of the library means and what to do about it: the one place for these sentences.
 
+#[derive(Debug)]
 pub struct Sentence {
     pub meaning: &'static str,
     pub advice: &'static str,
@@ -10,7 +11,7 @@ const fn say(meaning: &'static str, advice: &'static str) -> Sentence {
 }
 
 #[rustfmt::skip]
-const SENTENCES: [Sentence; 27] = [
+const SENTENCES: [Sentence; 29] = [
     say("the bytes end within the header", "Compare the file's size with its copy: it is cut short, or it is no frame."),
     say("a name of header lines 0 to 2 is wrong", "Check that this is a Bruker frame: it starts with `FORMAT :`."),
     say("a header field is missing or is no number of one to ten digits", "Compare the header line with another frame of the series."),
@@ -38,12 +39,43 @@ const SENTENCES: [Sentence; 27] = [
     say("this is no calendar date", "Dates are days of the Gregorian calendar in the years 0001 to 4095, written YYYY-MM-DD."),
     say("no keep line stands, so a purge is not allowed", "Set a date with `quayrudder keep NAME YYYY-MM-DD`."),
     say("the keep date is not before the day asked", "Ask again for a day after the keep date."),
+    say("the first number is neither 1200 nor 2000", "Check that this is an uncompressed mar image."),
+    say("the sizes in the mar header do not fit together", "Entry 2 must be entry 1, entry 3 twice that, and entry 6 the records that the pairs of entry 5 fill: take another copy of the image."),
 ];
+
+const NO_SUCH_ENTRY: Sentence = say("a mar header has no such entry", "Entries are numbered from 1 to 25.");
+
+// What else is said of a mar image.
+const MAR_TRUNCATED: Sentence = say(
+    "the bytes end within the header record",
+    "Compare the file's size with its copy: it is cut short, or it is no mar image.",
+);
+const MAR_DATA_TRUNCATED: Sentence = say(
+    "the bytes end before the image or the high-intensity records do",
+    "Compare the file's size with its copy: it is cut short, or it is a compressed image (.pck), which is not read.",
+);
+const MAR_BAD_PAIR: Sentence = say(
+    "a high-intensity pair has no pixel of 65535 to itself, or its count is not above 65535",
+    "The high-intensity records are damaged: take another copy of the image.",
+);
 
 const UNKNOWN: Sentence =
     say("the library gives a number that this command does not know", "Build command and library of the same state.");
 
 pub fn sentence(number: u32) -> &'static Sentence {
     let place = (number as usize).wrapping_sub(1);
-    SENTENCES.get(place).unwrap_or(&UNKNOWN)
+    match number {
+        37 => &NO_SUCH_ENTRY,
+        _ => SENTENCES.get(place).unwrap_or(&UNKNOWN),
+    }
+}
+
+/// The sentence where a mar image is read.
+pub fn mar_sentence(number: u32) -> &'static Sentence {
+    match number {
+        1 => &MAR_TRUNCATED,
+        11 => &MAR_DATA_TRUNCATED,
+        13 => &MAR_BAD_PAIR,
+        _ => sentence(number),
+    }
 }

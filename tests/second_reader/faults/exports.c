@@ -13,6 +13,8 @@ void rattle_qr_withdraw(qr_ledger_answer *, slice *, slice *, uint64_t);
 uint32_t rattle_qr_may_purge(slice *, uint64_t, uint32_t, uint32_t, uint32_t);
 void rattle_qr_header(qr_header_answer *, slice *);
 void rattle_qr_list(qr_list_answer *, slice *, slice *);
+void rattle_qr_mar_read(qr_read_answer *, slice *, slice *);
+void rattle_qr_mar_entry(qr_mar_entry_answer *, slice *, uint32_t);
 
 qr_read_answer qr_read(const uint8_t *frame, size_t frame_len, uint32_t *pixels, size_t pixels_len) {
     slice f = { frame, frame_len }, p = { pixels, pixels_len };
@@ -75,5 +77,19 @@ qr_list_answer qr_list(const uint8_t *ledger, size_t ledger_len, uint8_t *out, s
     slice l = { ledger, ledger_len }, o = { out, out_len };
     qr_list_answer answer;
     rattle_qr_list(&answer, &l, &o);
+    return answer;
+}
+
+qr_read_answer qr_mar_read(const uint8_t *file, size_t file_len, uint32_t *pixels, size_t pixels_len) {
+    slice f = { file, file_len }, p = { pixels, pixels_len };
+    qr_read_answer answer;
+    rattle_qr_mar_read(&answer, &f, &p);
+    return answer;
+}
+
+qr_mar_entry_answer qr_mar_entry(const uint8_t *file, size_t file_len, uint32_t entry) {
+    slice f = { file, file_len };
+    qr_mar_entry_answer answer;
+    rattle_qr_mar_entry(&answer, &f, entry);
     return answer;
 }

@@ -1,5 +1,6 @@
 //! A case: one call, or a list of calls from an opening, with all that is lent to it.
 use std::fmt::Write;
+use std::rc::Rc;
 
 #[derive(Clone, Copy, Debug, PartialEq, Eq, PartialOrd, Ord)]
 pub enum Call {
@@ -12,11 +13,13 @@ pub enum Call {
     Purge,
     Header,
     Listing,
+    MarRead,
+    MarEntry,
     /// A list of calls.
     List,
 }
 
-pub const CALLS: [(Call, &str); 10] = [
+pub const CALLS: [(Call, &str); 12] = [
     (Call::Read, "read"),
     (Call::Write, "write"),
     (Call::Open, "open"),
@@ -26,6 +29,8 @@ pub const CALLS: [(Call, &str); 10] = [
     (Call::Purge, "purge"),
     (Call::Header, "header"),
     (Call::Listing, "listing"),
+    (Call::MarRead, "mar read"),
+    (Call::MarEntry, "mar entry"),
     (Call::List, "list"),
 ];
 
@@ -40,6 +45,7 @@ impl Call {
 pub struct Step {
     pub call: Call,
     pub pixel: u64,
+    /// A count, or the number of an entry in a mar header.
     pub count: u32,
     pub date: (u32, u32, u32),
 }
@@ -47,8 +53,8 @@ pub struct Step {
 #[derive(Clone, Debug, PartialEq, Eq)]
 pub struct Case {
     pub step: Step,
-    /// The frame read or opened, or the writer's header.
-    pub frame: Vec<u8>,
+    /// The frame or the mar image read or opened, or the writer's header. No call writes it, so copies of a case share it.
+    pub frame: Rc<Vec<u8>>,
     pub pixels: Vec<u32>,
     pub form: (u32, u32),
     /// The output or the held buffer.
@@ -66,12 +72,14 @@ pub enum Target {
     Ledger,
 }
 
-/// A change to bytes that are lent.
+/// A change to what is lent.
 #[derive(Clone, Debug)]
 pub enum Mutation {
     Patch(Target, usize, Vec<u8>),
     Remove(Target, usize),
     Resize(Target, usize),
+    /// Another number of pixel places.
+    Pixels(usize),
 }
 
 impl Case {
@@ -84,7 +92,7 @@ impl Case {
                 count: 0,
                 date: (0, 0, 0),
             },
-            frame: Vec::new(),
+            frame: Rc::default(),
             pixels: Vec::new(),
             form: (0, 0),
             buffer: Vec::new(),
@@ -104,7 +112,7 @@ impl Case {
 
     fn bytes_mut(&mut self, target: Target) -> &mut Vec<u8> {
         match target {
-            Target::Frame => &mut self.frame,
+            Target::Frame => Rc::make_mut(&mut self.frame),
             Target::Buffer => &mut self.buffer,
             Target::Ledger => &mut self.ledger,
         }
@@ -127,6 +135,7 @@ impl Case {
                 Mutation::Resize(target, length) => {
                     case.bytes_mut(*target).resize(*length, 0);
                 }
+                Mutation::Pixels(length) => case.pixels.resize(*length, 65535),
             }
         }
         case
@@ -138,7 +147,7 @@ impl Case {
         let (width, underflow) = self.form;
         let _ = writeln!(text, "form {width} {underflow} {}", self.lines);
         for (name, bytes) in [
-            ("frame", &self.frame),
+            ("frame", &*self.frame),
             ("buffer", &self.buffer),
             ("ledger", &self.ledger),
         ] {
@@ -162,7 +171,7 @@ impl Case {
         let word = |bytes: &[u8]| u32::from_be_bytes([bytes[0], bytes[1], bytes[2], bytes[3]]);
         Some(Case {
             step,
-            frame,
+            frame: frame.into(),
             pixels: pixels.chunks_exact(4).map(word).collect(),
             form: (*numbers.first()? as u32, *numbers.get(1)? as u32),
             buffer,

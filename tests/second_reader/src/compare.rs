@@ -1,11 +1,12 @@
 //! Both answers to a case, and the shrinking of a case on which they differ.
 use crate::case::{Call, Case, Mutation, Step};
 use crate::fault::Fault;
+use crate::frame::{Extent, Refusal};
 use crate::ledger::{self, Date, Entry};
 use crate::library;
 use crate::listing;
 use crate::model::Model;
-use crate::{frame, held};
+use crate::{frame, held, mar};
 
 /// What a case gave: the answers and every lent byte after each call.
 #[derive(Debug, PartialEq, Eq)]
@@ -52,6 +53,14 @@ impl Outcome {
     }
 }
 
+/// The call that a step is counted as: a list starts with an opening.
+fn counted(call: Call) -> Call {
+    match call {
+        Call::List => Call::Open,
+        other => other,
+    }
+}
+
 fn library_step(fault: Fault, step: &Step, out: &mut Outcome) -> u64 {
     let case = &mut out.after;
     let (held, ledger) = (&mut case.buffer, &mut case.ledger);
@@ -65,17 +74,14 @@ fn library_step(fault: Fault, step: &Step, out: &mut Outcome) -> u64 {
         Call::Purge => library::may_purge(ledger, case.lines, step.date),
         Call::Header => library::header(&case.frame),
         Call::Listing => library::list(ledger, held),
+        Call::MarRead => fault.mar_read(&case.frame, &mut case.pixels),
+        Call::MarEntry => library::mar_entry(&case.frame, step.count),
     };
     if matches!(step.call, Call::Correct | Call::Keep | Call::Withdraw) {
         case.lines = answer[1];
     }
     out.respected &= respected;
-    let call = if step.call == Call::List {
-        Call::Open
-    } else {
-        step.call
-    };
-    out.note(call, answer)
+    out.note(counted(step.call), answer)
 }
 
 pub fn by_library(fault: Fault, case: &Case) -> Outcome {
@@ -95,7 +101,7 @@ fn date(step: &Step) -> Date {
     Date { year, month, day }
 }
 
-fn refusal_words(refusal: frame::Refusal) -> Vec<u64> {
+fn refusal_words(refusal: Refusal) -> Vec<u64> {
     vec![refusal.number.into(), refusal.place.into(), 0]
 }
 
@@ -108,8 +114,7 @@ fn open_answer(case: &mut Case) -> Vec<u64> {
     answer
 }
 
-fn read_answer(case: &mut Case) -> Vec<u64> {
-    let found = frame::read(&case.frame, &mut case.pixels);
+fn read_answer(found: Result<Extent, Refusal>) -> Vec<u64> {
     let mut answer = found.map_or_else(refusal_words, |_| vec![0; 3]);
     let extent = found.unwrap_or_default();
     answer.extend([extent.rows.into(), extent.columns.into(), extent.end]);
@@ -149,6 +154,13 @@ fn header_answer(frame: &[u8]) -> Vec<u64> {
     answer
 }
 
+fn entry_answer(found: Result<(bool, u32), Refusal>) -> Vec<u64> {
+    match found {
+        Ok((is_float, bits)) => vec![0, is_float.into(), bits.into()],
+        Err(refusal) => vec![refusal.number.into(), 0, 0],
+    }
+}
+
 fn listing_answer(ledger: &[u8], out: &mut [u8]) -> Vec<u64> {
     let (text, room) = listing::listing(ledger);
     if out.len() < room {
@@ -169,7 +181,7 @@ fn second_step(step: &Step, out: &mut Outcome) -> u64 {
     let (held, ledger) = (&mut case.buffer, &mut case.ledger);
     let lines = case.lines;
     let answer = match step.call {
-        Call::Read => read_answer(case),
+        Call::Read => read_answer(frame::read(&case.frame, &mut case.pixels)),
         Call::Write => write_answer(case),
         Call::Open | Call::List => open_answer(case),
         Call::Correct => {
@@ -187,13 +199,10 @@ fn second_step(step: &Step, out: &mut Outcome) -> u64 {
         }
         Call::Header => header_answer(&case.frame),
         Call::Listing => listing_answer(ledger, held),
+        Call::MarRead => read_answer(mar::read(&case.frame, &mut case.pixels)),
+        Call::MarEntry => entry_answer(mar::entry(&case.frame, step.count)),
     };
-    let call = if step.call == Call::List {
-        Call::Open
-    } else {
-        step.call
-    };
-    out.note(call, answer)
+    out.note(counted(step.call), answer)
 }
 
 /// Enters one call into the reference model and brings the held buffer and the ledger to what it says.
@@ -233,7 +242,7 @@ pub fn by_second_reader(case: &Case) -> Outcome {
     }
     let pixels = out.answers[0][3] * out.answers[0][4];
     let mut model = Model {
-        header: case.frame.clone(),
+        header: case.frame.to_vec(),
         opened: out.after.pixels[..pixels as usize].to_vec(),
         form: case.form,
         held_length: case.buffer.len(),

@@ -11,11 +11,19 @@ pub enum Fault {
     Tail,
     /// A correction judges the pixel number before the ledger.
     Order,
+    /// A bad pair of a mar image leaves the pixels as they were.
+    Pixels,
 }
 
 impl Fault {
     pub fn numbered(number: u64) -> Option<Fault> {
-        let faults = [Fault::None, Fault::Threshold, Fault::Tail, Fault::Order];
+        let faults = [
+            Fault::None,
+            Fault::Threshold,
+            Fault::Tail,
+            Fault::Order,
+            Fault::Pixels,
+        ];
         faults.get(number as usize).copied()
     }
 
@@ -54,6 +62,18 @@ impl Fault {
             }
         }
         library::correct(held, ledger, lines, pixel, count)
+    }
+
+    pub fn mar_read(self, file: &[u8], pixels: &mut [u32]) -> Answer {
+        if self != Fault::Pixels {
+            return library::mar_read(file, pixels);
+        }
+        let before = pixels.to_vec();
+        let answer = library::mar_read(file, pixels);
+        if answer.0[0] == 13 {
+            pixels.copy_from_slice(&before);
+        }
+        answer
     }
 }
 

@@ -26,7 +26,7 @@ fn pixel_count(bytes: &[u8]) -> usize {
 /// Reads a frame; its pixels go to `out`, least significant byte first.
 pub fn expand(file: &str, out: &str) -> io::Result<bool> {
     let mut case = Case::of(Call::Read);
-    case.frame = std::fs::read(file)?;
+    case.frame = std::fs::read(file)?.into();
     case.pixels = vec![0; pixel_count(&case.frame)];
     let (outcome, same) = both(&case);
     let pixels = outcome.after.pixels.iter();
@@ -38,7 +38,7 @@ pub fn expand(file: &str, out: &str) -> io::Result<bool> {
 /// Writes the pixels of a file in a form; the frame goes to `out`.
 pub fn store(header: &str, pixels: &str, form: (u32, u32), out: &str) -> io::Result<bool> {
     let mut case = Case::of(Call::Write);
-    case.frame = std::fs::read(header)?;
+    case.frame = std::fs::read(header)?.into();
     let word = |bytes: &[u8]| u32::from_le_bytes([bytes[0], bytes[1], bytes[2], bytes[3]]);
     case.pixels = std::fs::read(pixels)?.chunks_exact(4).map(word).collect();
     case.form = form;

@@ -14,7 +14,7 @@ pub fn refuse<T>(number: u32) -> Result<T, Refusal> {
     refuse_at(number, 0)
 }
 
-fn refuse_at<T>(number: u32, place: usize) -> Result<T, Refusal> {
+pub fn refuse_at<T>(number: u32, place: usize) -> Result<T, Refusal> {
     let place = place as u32;
     Err(Refusal { number, place })
 }

@@ -2,6 +2,7 @@
 use crate::case::{Call, Case, Mutation, Step, Target};
 use crate::frame::{self, Header, LINE, NAME};
 use crate::ledger::{Date, Entry, BYTES};
+use crate::plates;
 use crate::random::Random;
 use crate::sample::{self, Layout, Size, WANTED};
 
@@ -336,7 +337,7 @@ fn damage(random: &mut Random, case: &Case) -> Vec<Mutation> {
     (0..length).map(|_| one(random)).collect()
 }
 
-fn any_bytes(random: &mut Random, length: usize) -> Vec<u8> {
+pub fn any_bytes(random: &mut Random, length: usize) -> Vec<u8> {
     let fill = random.byte();
     (0..length).map(|at| fill.wrapping_add(at as u8)).collect()
 }
@@ -421,7 +422,7 @@ fn frame_case(random: &mut Random, call: Call, size: Size) -> Case {
     let room = room(random, &frame, &room_pixels, form);
     Case {
         step: step(random, call, layout.pixels(), layout.baseline),
-        frame,
+        frame: frame.into(),
         pixels,
         form,
         buffer: any_bytes(random, room),
@@ -528,8 +529,8 @@ fn size(random: &mut Random, number: u64) -> Size {
 
 pub fn case(random: &mut Random, number: u64) -> Made {
     let size = size(random, number);
-    // The last three look at no frame.
-    let calls = if size.is_large() { 15 } else { 18 };
+    // The last five look at no frame.
+    let calls = if size.is_large() { 15 } else { 20 };
     let call = match random.below(calls) {
         0..=3 => Call::Read,
         4 | 5 => Call::Write,
@@ -540,7 +541,9 @@ pub fn case(random: &mut Random, number: u64) -> Made {
         14 => Call::Header,
         15 => Call::Keep,
         16 => Call::Purge,
-        _ => Call::Listing,
+        17 => Call::Listing,
+        18 => return plates::headed_case(random, Call::MarEntry),
+        _ => return plates::headed_case(random, Call::MarRead),
     };
     let base = match call {
         Call::Read | Call::Write | Call::Open | Call::Header => frame_case(random, call, size),

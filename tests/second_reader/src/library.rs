@@ -1,5 +1,5 @@
 //! The static library, with guards: every slice is lent from the middle of a longer buffer whose other places are guards.
-use quayrudder::{Date, Form, LedgerAnswer};
+use quayrudder::{Date, Form, LedgerAnswer, ReadAnswer};
 
 /// Places before and after a lent slice. Odd, so that bytes are lent unaligned.
 const GUARD: usize = 67;
@@ -64,13 +64,30 @@ fn date((year, month, day): (u32, u32, u32)) -> Date {
     Date { year, month, day }
 }
 
-pub fn read(frame: &[u8], pixels: &mut [u32]) -> Answer {
-    let mut a = Lent::new(frame, BYTE);
+type Reader = fn(&[u8], &mut [u32]) -> ReadAnswer;
+
+fn read_by(reader: Reader, file: &[u8], pixels: &mut [u32]) -> Answer {
+    let mut a = Lent::new(file, BYTE);
     let mut b = Lent::new(pixels, WORD);
-    let r = quayrudder::read(a.middle(), b.middle());
+    let r = reader(a.middle(), b.middle());
     let mut numbers = words([r.refusal, r.place, r.column, r.rows, r.columns]);
     numbers.push(r.end);
-    (numbers, a.is_untouched(frame) & b.give_back(pixels))
+    (numbers, a.is_untouched(file) & b.give_back(pixels))
+}
+
+pub fn read(frame: &[u8], pixels: &mut [u32]) -> Answer {
+    read_by(quayrudder::read, frame, pixels)
+}
+
+pub fn mar_read(file: &[u8], pixels: &mut [u32]) -> Answer {
+    read_by(quayrudder::mar_read, file, pixels)
+}
+
+pub fn mar_entry(file: &[u8], entry: u32) -> Answer {
+    let mut a = Lent::new(file, BYTE);
+    let r = quayrudder::mar_entry(a.middle(), entry);
+    let numbers = words([r.refusal, r.is_float, r.bits]);
+    (numbers, a.is_untouched(file))
 }
 
 pub fn write(header: &[u8], pixels: &[u32], asked: (u32, u32), out: &mut [u8]) -> Answer {

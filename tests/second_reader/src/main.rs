@@ -11,7 +11,11 @@ mod held;
 mod ledger;
 mod library;
 mod listing;
+mod mar;
+mod mar_trials;
 mod model;
+mod plate;
+mod plates;
 mod random;
 mod sample;
 mod tally;
@@ -20,14 +24,16 @@ mod trials;
 
 use case::{Case, Mutation};
 use fault::Fault;
+use plates::Plates;
 use random::Random;
 use std::process::ExitCode;
 use std::time::{Duration, Instant, SystemTime, UNIX_EPOCH};
 use tally::Tally;
 
 const USAGE: &str =
-    "second_reader compare [--seed N] [--seconds S] [--fault 1..3] [--case FILE] [--trace 1]\n\
-                     second_reader replay FILE [--fault 1..3]\n\
+    "second_reader compare [--seed N] [--seconds S] [--fault 1..4] [--case FILE] [--trace 1]\n\
+                     second_reader replay FILE [--fault 1..4]\n\
+                     second_reader mar-trials\n\
                      second_reader expand FRAME PIXELS\n\
                      second_reader store HEADER PIXELS WIDTH UNDERFLOW FRAME";
 
@@ -97,17 +103,37 @@ fn goes_on(options: &Options, tally: &Tally, elapsed: Duration) -> bool {
     elapsed < asked || (elapsed < 4 * asked && !tally.all_reached())
 }
 
+/// One case in so many has a whole mar image.
+const WHOLE_IMAGE: u64 = 400;
+
+/// Whether both sides agree on the case with this number.
+fn next(
+    options: &Options,
+    tally: &mut Tally,
+    random: &mut Random,
+    plates: &mut Plates,
+    number: u64,
+) -> bool {
+    if number % WHOLE_IMAGE == WHOLE_IMAGE / 2 {
+        let (side, base, damage) = plates.case(random);
+        tally.add_plate(side);
+        return agree(options, tally, base, damage);
+    }
+    let made = generate::case(random, number);
+    tally.add_size(made.size);
+    agree(options, tally, &made.base, made.damage)
+}
+
 fn run_all(options: &Options, tally: &mut Tally) -> bool {
     let start = Instant::now();
     let mut random = Random(options.seed);
     let mut same = generate::calendar()
         .iter()
         .all(|case| agree(options, tally, case, Vec::new()));
+    let mut plates = Plates::new(&mut random);
     let mut number = 0;
     while same && goes_on(options, tally, start.elapsed()) {
-        let made = generate::case(&mut random, number);
-        tally.add_size(made.size);
-        same = agree(options, tally, &made.base, made.damage);
+        same = next(options, tally, &mut random, &mut plates, number);
         number += 1;
     }
     println!("{:.2} s", start.elapsed().as_secs_f64());
@@ -159,6 +185,7 @@ fn run(words: &[&str]) -> Option<ExitCode> {
     match words {
         ["compare", rest @ ..] => Some(run_compare(&options(rest)?)),
         ["replay", file, rest @ ..] => Some(run_replay(file, &options(rest)?)),
+        ["mar-trials"] => Some(verdict(Ok(mar_trials::run()))),
         ["expand", frame, pixels] => Some(verdict(files::expand(frame, pixels))),
         ["store", header, pixels, width, underflow, frame] => {
             let form = (width.parse().ok()?, underflow.parse().ok()?);

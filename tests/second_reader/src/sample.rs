@@ -320,9 +320,7 @@ pub fn format_86(random: &mut Random, layout: &Layout) -> Vec<u8> {
             entries.push(aligned(random, intensity, 9) + &aligned(random, pixel, 7));
         }
     }
-    for last in (1..entries.len()).rev() {
-        entries.swap(last, random.index(last + 1));
-    }
+    random.shuffle(&mut entries);
     layout.counts = vec![entries.len() as i64];
     let mut bytes = header(random, &layout);
     bytes.extend(image);

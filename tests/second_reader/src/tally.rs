@@ -8,6 +8,8 @@ pub struct Tally {
     cases: u64,
     lists: u64,
     sizes: BTreeMap<Size, u64>,
+    /// Whole mar images by their side.
+    plates: BTreeMap<usize, u64>,
     met: BTreeMap<(Call, u64), u64>,
 }
 
@@ -25,6 +27,8 @@ fn possible(call: Call) -> Vec<u64> {
         Call::Header => (0..=9).collect(),
         // 0, and 1 where the buffer is too short.
         Call::Listing => vec![0, 1],
+        Call::MarRead => vec![0, 1, 10, 11, 13, 28, 29],
+        Call::MarEntry => vec![0, 1, 28, 29, 37],
         Call::List => Vec::new(),
     }
 }
@@ -45,6 +49,11 @@ impl Tally {
         }
     }
 
+    /// Counts a case of a whole mar image.
+    pub fn add_plate(&mut self, side: usize) {
+        *self.plates.entry(side).or_default() += 1;
+    }
+
     pub fn cases(&self) -> u64 {
         self.cases
     }
@@ -63,6 +72,9 @@ impl Tally {
             let count = self.sizes.get(&size).copied().unwrap_or(0);
             println!("{name}: {count}");
         }
+        self.plates
+            .iter()
+            .for_each(|(side, count)| println!("mar images of {side} x {side}: {count}"));
     }
 
     pub fn print(&self) {
@@ -75,7 +87,7 @@ impl Tally {
         let calls = &CALLS[..CALLS.len() - 1];
         calls.iter().for_each(|(_, name)| print!("{name:>10}"));
         println!();
-        for refusal in 0..=27 {
+        for refusal in (0..=29).chain([37]) {
             print!("{refusal:>8}");
             for (call, _) in calls {
                 match (
