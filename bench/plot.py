@@ -63,6 +63,8 @@ def mar(axes, tables):
     column = lambda index: [float(cells[index]) for cells in found]
     series = [(GCC, column(2)), (CLANG, column(3)), (OURS, column(4)), (COPY, column(5))]
     panel(axes, "mar reading: ns/pixel", [f"{cells[0].removeprefix('read mar, ')}, {cells[1]}" for cells in found], series)
+    axes.set_xscale("linear")
+    axes.set_xlim(left=0)
 
 
 def draw(tables, path):
