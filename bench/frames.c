@@ -7,7 +7,7 @@
 #include <time.h>
 
 static uint64_t state = 88172645463325252u;
-static uint32_t rnd(void) {
+uint32_t rnd(void) {
     state ^= state << 13;
     state ^= state >> 7;
     state ^= state << 17;

@@ -1,4 +1,4 @@
-/* Frames to time, and what both benchmark programs share. */
+/* Frames to time, and what the benchmark programs share. */
 #include "plain.h"
 
 enum { HEADER = 7680 };
@@ -12,6 +12,9 @@ typedef struct {
 
 /* seconds */
 double now(void);
+
+/* The next pseudo-random number. */
+uint32_t rnd(void);
 
 /* A frame of counts like a measured one: 0.5% above 255, 0.005% above 65535, and `below` in 1000 at or below the baseline. */
 frame make(int format, unsigned side, int width, int under_width, unsigned below);

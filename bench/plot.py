@@ -58,10 +58,20 @@ def listing(axes, tables):
     panel(axes, "listing, 4,096 lines: ns/line", [cells[0].removeprefix("list, ") for cells in found], series)
 
 
+def mar(axes, tables):
+    found = rows(tables["mar"], lambda cells: cells[0].startswith("read mar,"))
+    column = lambda index: [float(cells[index]) for cells in found]
+    series = [(GCC, column(2)), (CLANG, column(3)), (OURS, column(4)), (COPY, column(5))]
+    panel(axes, "mar reading: ns/pixel", [f"{cells[0].removeprefix('read mar, ')}, {cells[1]}" for cells in found], series)
+    axes.set_xscale("linear")
+    axes.set_xlim(left=0)
+
+
 def draw(tables, path):
-    figure, ((a, b), (c, d)) = pyplot.subplots(2, 2, figsize=(13, 8.5), layout="constrained")
-    frames(a, "reading, side 1024: ns/pixel", "read", tables, "reading")
-    frames(b, "writing, side 1024: ns/pixel", "write", tables, "writing")
-    held(c, tables)
-    listing(d, tables)
+    figure, axes = pyplot.subplot_mosaic("ab;cd;ee", figsize=(13, 12.5), layout="constrained")
+    frames(axes["a"], "reading, side 1024: ns/pixel", "read", tables, "reading")
+    frames(axes["b"], "writing, side 1024: ns/pixel", "write", tables, "writing")
+    held(axes["c"], tables)
+    listing(axes["d"], tables)
+    mar(axes["e"], tables)
     figure.savefig(path, dpi=110)

@@ -12,6 +12,7 @@ typedef struct { uint32_t too_short; uint64_t length; } qr_list_answer;
 typedef struct {
     uint32_t refusal, place, column, format, start, rows, columns, width, entries, subtracted, entry, baseline, underflows, two, four;
 } qr_header_answer;
+typedef struct { uint32_t refusal, is_float, bits; } qr_mar_entry_answer;
 
 /* A frame of FORMAT 100 or 86 into pixels. */
 qr_read_answer qr_read(const uint8_t *frame, size_t frame_len, uint32_t *pixels, size_t pixels_len);
@@ -41,6 +42,13 @@ uint32_t qr_may_purge(const uint8_t *ledger, size_t ledger_len, uint64_t lines, 
 /* What a header says. start: its length; entries: of FORMAT 86's table; subtracted: 1 where the underflow count is not -1; entry: bytes of an
    underflow entry. A field that does not apply is 0. */
 qr_header_answer qr_header(const uint8_t *frame, size_t frame_len);
+
+/* An uncompressed mar .image file into pixels. rows and columns: 1200 or 2000; end: the byte after the last record; place: of the refused pair,
+   from 0. */
+qr_read_answer qr_mar_read(const uint8_t *file, size_t file_len, uint32_t *pixels, size_t pixels_len);
+
+/* A mar header's entry, 1 to 25. is_float: 0 for a whole number, 1 for a single-precision float; bits: the number, or the float's bits. */
+qr_mar_entry_answer qr_mar_entry(const uint8_t *file, size_t file_len, uint32_t entry);
 
 /* The text of a ledger's listing, the last length bytes of out. too_short: 1 where out has no room for it. */
 qr_list_answer qr_list(const uint8_t *ledger, size_t ledger_len, uint8_t *out, size_t out_len);

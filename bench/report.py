@@ -1,5 +1,6 @@
 #!/usr/bin/python3
-"""report.py BUILD [DOCS]: runs the benchmark's programs and FabIO, prints their tables, and puts tables and plot into DOCS."""
+"""report.py BUILD [DOCS [RUN...]]: runs the benchmark's programs and FabIO, prints their tables, and puts tables and plot into DOCS.
+Where runs are named, only those; their tables then say themselves what they were made with."""
 import os
 import pathlib
 import re
@@ -66,28 +67,50 @@ def machine(before):
     return f"One run: {'; '.join(tools)}; {cores}; load {before[0]:.1f} before it and {os.getloadavg()[0]:.1f} after."
 
 
-def main():
-    build = pathlib.Path(sys.argv[1])
-    before = os.getloadavg()
-    lines, held, listing = run(build, "bench"), run(build, "held"), run(build, "listing")
+def bench_tables(build):
+    lines = run(build, "bench")
+    return {"reading": part(lines, "read", 6, 1.0), "writing": part(lines, "write", 6, 1.0)}
+
+
+def fabio_table(build):
     theirs = fabio_rows.table(build)
     print(theirs)
-    tables = {
-        "machine": machine(before),
-        "reading": part(lines, "read", 6, 1.0),
-        "writing": part(lines, "write", 6, 1.0),
-        "held": held_part(held),
-        "listing": part(listing, "list", 6, 1.0),
-        "fabio": theirs,
-    }
+    return {"fabio": theirs}
+
+
+# What is run, and the tables that it makes.
+RUNS = {
+    "bench": bench_tables,
+    "held": lambda build: {"held": held_part(run(build, "held"))},
+    "listing": lambda build: {"listing": part(run(build, "listing"), "list", 6, 1.0)},
+    "mar": lambda build: {"mar": part(run(build, "mar"), "read", 6, 1.0)},
+    "fabio": fabio_table,
+}
+
+
+def update(docs, tables):
+    """The page with these tables, and the plot of all that it then has."""
+    page = (docs / "BENCHMARKS.md").read_text()
+    for name, text in tables.items():
+        page = put(page, name, text)
+    (docs / "BENCHMARKS.md").write_text(page)
+    plot.draw(dict(re.findall(r"<!-- table (\w+) -->\n(.*?)\n<!-- end -->", page, re.S)), docs / "benchmarks.png")
+
+
+def main():
+    build, only = pathlib.Path(sys.argv[1]), sys.argv[3:]
+    before = os.getloadavg()
+    tables = {}
+    for name in only or RUNS:
+        tables.update(RUNS[name](build))
+    said = machine(before)
+    print(said)
+    if only:
+        tables = {name: f"{text}\n\n{said}" for name, text in tables.items()}
+    else:
+        tables["machine"] = said
     if len(sys.argv) > 2:
-        docs = pathlib.Path(sys.argv[2])
-        print(tables["machine"])
-        page = (docs / "BENCHMARKS.md").read_text()
-        for name, text in tables.items():
-            page = put(page, name, text)
-        (docs / "BENCHMARKS.md").write_text(page)
-        plot.draw(tables, docs / "benchmarks.png")
+        update(pathlib.Path(sys.argv[2]), tables)
 
 
 if __name__ == "__main__":

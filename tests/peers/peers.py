@@ -1,5 +1,6 @@
 #!/usr/bin/python3
-"""FabIO's frames read by the library and the library's by FabIO, pixel by pixel; then where FabIO departs from the published format."""
+"""FabIO's frames read by the library and the library's by FabIO, pixel by pixel; mar files by both, part by part; then where FabIO departs from the
+published format."""
 import logging
 import pathlib
 import sys
@@ -9,6 +10,7 @@ from itertools import product
 import numpy
 
 import bruker
+import mar
 from departures import DEPARTURES
 
 SHAPES = [(1, 1), (1, 7), (3, 5), (64, 65), (512, 512), (2048, 2048)]
@@ -123,6 +125,37 @@ def library_100(report, folder, random):
         both_read(report, name, path, pixels, width, underflow)
 
 
+def mar_read(report, name, path, file, counts):
+    """The library, and FabIO's generic reader at each part."""
+    ours, expected = mar.library_read(path), counts.reshape(file.side, file.side)
+    answer = [0, 0, 0, file.side, file.side, path.stat().st_size]
+    report.note(name, "" if ours.answer == answer else f"answer {ours.answer}, not {answer}")
+    report.note(name, first_difference(ours.pixels, expected), first_difference(mar.fabio_pixels(path, file), expected))
+    entries = mar.fabio_entries(path, file)
+    report.note("mar header entries", "" if ours.entries == entries else f"{ours.entries}, not {entries}")
+
+
+def mar_files(report, folder, random):
+    mar.build()
+    path = folder / "frame.image"
+    for side, order, pairs in product((1200, 2000), "<>", (0, 1, 299, 300, 301, 499, 500, 501, 4000)):
+        file = mar.Mar(side, order, pairs)
+        counts = mar.counts_of(random, file)
+        mar.make(path, random, file, counts)
+        mar_read(report, f"mar {side}, {mar.ORDERS[order]}", path, file, counts)
+        mar.turn_pairs(path, file)
+        mar_read(report, f"the same, pairs turned round, {side}, {mar.ORDERS[order]}", path, file, counts)
+
+
+def mar_unread(report, folder, random):
+    path = folder / "frame.image"
+    for side, order, pairs in product((1200, 2000), "<>", (0, 7)):
+        file = mar.Mar(side, order, pairs)
+        mar.make(path, random, file, mar.counts_of(random, file))
+        found = [name for name, reader in mar.READERS.items() if mar.reads(reader, path)]
+        report.note("no reader of FabIO reads a mar file", ", ".join(found))
+
+
 def departures(report, folder):
     print("\nWhere FabIO departs:")
     for name, trial in DEPARTURES:
@@ -140,7 +173,7 @@ def main():
     report = Report()
     with tempfile.TemporaryDirectory() as folder:
         folder = pathlib.Path(folder)
-        for trial in (fabio_86, fabio_100, library_100):
+        for trial in (fabio_86, fabio_100, library_100, mar_files, mar_unread):
             trial(report, folder, random)
         departures(report, folder)
     print()
