@@ -1,20 +1,18 @@
 -- Laws of numbers in either byte order.
 -- Assumes nothing.
-use mathlib.Core.Path.{_≡_, refl, sym, ap, _∙_}
+use mathlib.Core.Path.{_≡_, refl, ap}
 use mathlib.Core.Bool.{Bool, true, false}
 use mathlib.Core.List.{List, [], _∷_}
-use Prim.Native.Nat.{ℕ, zero, suc, _+_, _*_, _-_, _/_, _%_, _^_, _≤_, _<_}
-use native.Mathlib.Nat.{add-zero, le-of-suc-le-suc, not-suc-le-zero, suc-mul, zero-mul, one-le-pow, pow-le-pow-right, div-lt-iff-lt-mul}
+use Prim.Native.Nat.{ℕ, zero, suc, _+_, _*_, _-_, _/_, _%_, _≤_, _<_}
+use native.Mathlib.Nat.{add-zero, le-of-suc-le-suc, not-suc-le-zero, suc-mul, zero-mul, div-lt-iff-lt-mul}
 use native.Mathlib.Omega.{arith}
-use lib.ListN.{length, take, drop, getD, List·getD-eq-default, length-take}
-use lib.Seq.{drop-drop, take-all, take-take, getD-drop, getD-take}
-use lib.Dec.{leb, ltb}
-use borrow.Author.Tests.{le-leb, lt-leb, leb-true, leb-false, ltb-true, ltb-false}
+use lib.ListN.{length, take, drop, getD, length-take, length-drop}
+use lib.Seq.{drop-drop, take-all, take-take, getD-drop}
+use lib.Dec.{leb}
+use borrow.Author.Tests.{le-leb, lt-leb, leb-true, leb-false}
 use Rattle.lists.specs.Bytes.{little, bigFrom, big}
-use Rattle.lists.proofs.Below.{little-below}
-use Rattle.lists.proofs.BigEndian.{big-below}
 use Rattle.lists.proofs.Parts.{drop-take}
-use Rattle.table.specs.Table.{entries, wholeEntries}
+use Rattle.table.specs.Table.{entries}
 use Rattle.table.proofs.Laws.{whole-within, entries-take}
 use Rattle.byte_order.specs.declared.ByteOrder.{ByteOrder}
 use Rattle.byte_order.specs.declared.ByteOrder.the-variants as O
@@ -25,9 +23,6 @@ unfolding numbers
 length-numbers o w zero t = refl
 length-numbers o w (suc n) t = ap suc (length-numbers o w n (drop w t))
 
-pub numbers-out : (o : ByteOrder) (w n : ℕ) (t : List ℕ) (k : ℕ) → n ≤ k → getD (numbers o w n t) k 0 ≡ 0
-numbers-out o w n t k h = List·getD-eq-default (numbers o w n t) 0 {n = k} (rw length-numbers h)
-
 pub numbers-at : (o : ByteOrder) (w n : ℕ) (t : List ℕ) (k : ℕ) → k < n → getD (numbers o w n t) k 0 ≡ number o w (drop (k * w) t)
 unfolding numbers
 numbers-at o w zero t k h = absurd (not-suc-le-zero h)
@@ -35,6 +30,25 @@ numbers-at o w (suc n) t zero h = rw zero-mul
 numbers-at o w (suc n) t (suc k) h =
     let e : suc k * w ≡ w + k * w = omega (arith, suc-mul k w) in
     rw (e, ← drop-drop (k * w) w t) (numbers-at o w n (drop w t) k (le-of-suc-le-suc h))
+
+-- s numbers from p on
+drop-numbers : (o : ByteOrder) (w p n : ℕ) (t : List ℕ) → drop p (numbers o w n t) ≡ numbers o w (n - p) (drop (p * w) t)
+unfolding numbers
+drop-numbers o w zero n t = let f : n - 0 ≡ n = omega arith in rw (zero-mul, f)
+drop-numbers o w (suc p) zero t = let f : 0 - suc p ≡ 0 = omega arith in rw f
+drop-numbers o w (suc p) (suc n) t =
+    let e : suc p * w ≡ w + p * w = omega (arith, suc-mul p w) in
+    let f : suc n - suc p ≡ n - p = omega arith in
+    rw (e, f, ← drop-drop (p * w) w t) (drop-numbers o w p n (drop w t))
+
+take-numbers : (o : ByteOrder) (w s n : ℕ) (t : List ℕ) → s ≤ n → take s (numbers o w n t) ≡ numbers o w s t
+unfolding numbers
+take-numbers o w zero n t h = refl
+take-numbers o w (suc s) zero t h = absurd (not-suc-le-zero h)
+take-numbers o w (suc s) (suc n) t h = rw (take-numbers o w s n (drop w t) (le-of-suc-le-suc h))
+
+pub numbers-part : (o : ByteOrder) (w n p s : ℕ) (t : List ℕ) → p + s ≤ n → take s (drop p (numbers o w n t)) ≡ numbers o w s (drop (p * w) t)
+numbers-part o w n p s t h = rw (drop-numbers o w p n t, take-numbers o w s (n - p) (drop (p * w) t) (omega arith))
 
 -- least significant byte first: the entries of a table
 pub numbers-little : (w n : ℕ) (t : List ℕ) → numbers O.Little w n t ≡ entries w n t
@@ -55,28 +69,6 @@ numbers-take o w (suc n) m t h =
     let s : suc n * w ≡ n * w + w = suc-mul n w in
     rw (number-take o w m t (omega arith), drop-take w m t, numbers-take o w n (m - w) (drop w t) (omega arith))
 
--- numbers of w bytes are below 256 ^ w
-getD-take-below : (w : ℕ) (t : List ℕ) → ((i : ℕ) → getD t i 0 < 256) → (i : ℕ) → getD (take w t) i 0 < 256
-getD-take-below w t h i = go (ltb i w) refl
-  where
-    go : (b : Bool) → ltb i w ≡ b → getD (take w t) i 0 < 256
-    go true q = rw (getD-take w t i 0 (ltb-true _ _ q)) (h i)
-    go false q = rw (List·getD-eq-default (take w t) 0 {n = i} (omega (arith, length-take w t, ltb-false i w q))) (omega arith)
-
-number-below : (o : ByteOrder) (w : ℕ) (t : List ℕ) → ((i : ℕ) → getD t i 0 < 256) → number o w t < 256 ^ w
-unfolding number
-number-below O.Little w t h = little-below w t h
-number-below O.Big w t h =
-    let l : length (take w t) ≤ w = omega (arith, length-take w t) in
-    omega (arith, big-below (take w t) (getD-take-below w t h), pow-le-pow-right {n = 256} (omega arith) l)
-
-pub numbers-below : (o : ByteOrder) (w n : ℕ) (t : List ℕ) → ((i : ℕ) → getD t i 0 < 256) → (j : ℕ) → getD (numbers o w n t) j 0 < 256 ^ w
-numbers-below o w n t h j = go (ltb j n) refl
-  where
-    go : (b : Bool) → ltb j n ≡ b → getD (numbers o w n t) j 0 < 256 ^ w
-    go true q = rw (numbers-at o w n t j (ltb-true _ _ q)) (number-below o w (drop (j * w) t) (λ i. rw getD-drop (h (j * w + i))))
-    go false q = rw (numbers-out o w n t j (ltb-false _ _ q)) (one-le-pow w 256 (omega arith))
-
 -- number k, by how many whole ones t has
 pub number-whole : (o : ByteOrder) (w k : ℕ) (t : List ℕ) → k < length t / w → numberAt o w k t ≡ number o w (drop (k * w) t)
 unfolding numberAt
@@ -96,31 +88,50 @@ number-at-take o w k m t h = go (leb (suc k * w) (length t)) refl
         rw (q, le-leb _ _ l, drop-take (k * w) m t, number-take o w (m - k * w) (drop (k * w) t) (omega (arith, suc-mul k w)))
     go false q = rw (take-all m t (omega (arith, leb-false (suc k * w) (length t) q)))
 
--- an entry of a table is its number, least significant byte first
-pub entry-number : (w k : ℕ) (t : List ℕ) → 0 < w → getD (wholeEntries w t) k 0 ≡ numberAt O.Little w k t
-entry-number w k t p = rw (← numbers-little w (length t / w) t) (go (ltb k (length t / w)) refl)
-  where
-    go : (b : Bool) → ltb k (length t / w) ≡ b → getD (numbers O.Little w (length t / w) t) k 0 ≡ numberAt O.Little w k t
-    go true q =
-        let l = ltb-true _ _ q in
-        numbers-at O.Little w _ t k l ∙ sym (number-whole O.Little w k t l)
-    go false q =
-        let l = ltb-false _ _ q in
-        numbers-out O.Little w _ t k l ∙ sym (number-none O.Little w k t p l)
-
--- most significant byte first, from the same two bytes in the other order
-pub big-exchanged : (t : List ℕ) → 2 ≤ length t → getD t 0 0 < 256 → getD t 1 0 < 256 → big (take 2 t) ≡ little 2 t % 256 * 256 + little 2 t / 256
-unfolding little bigFrom
-big-exchanged [] h p q = absurd (not-suc-le-zero h)
-big-exchanged (a ∷ []) h p q = absurd (not-suc-le-zero (le-of-suc-le-suc h))
-big-exchanged (a ∷ b ∷ t) h p q = omega arith
-
-pub little-sixteen : (t : List ℕ) → ((i : ℕ) → getD t i 0 < 256) → little 2 t < 65536
-little-sixteen t h = omega (arith, little-below 2 t h)
-
+-- two bytes in either order, and the one order from the other
 pub little-two : (at : ℕ) (t : List ℕ) → getD t at 0 + 256 * getD t (at + 1) 0 ≡ little 2 (drop at t)
 unfolding little
 little-two at t =
     let a : getD (drop at t) 0 0 ≡ getD t at 0 = rw (getD-drop, add-zero) in
     let b : getD (drop 1 (drop at t)) 0 0 ≡ getD t (at + 1) 0 = rw (drop-drop, getD-drop, add-zero) in
     omega arith
+
+two : (u : List ℕ) → 2 ≤ length u → big (take 2 u) ≡ getD u 0 0 * 256 + getD u 1 0
+unfolding bigFrom
+two [] h = absurd (not-suc-le-zero h)
+two (a ∷ []) h = absurd (not-suc-le-zero (le-of-suc-le-suc h))
+two (a ∷ b ∷ u) h = omega arith
+
+pub big-two : (at : ℕ) (t : List ℕ) → at + 2 ≤ length t → getD t at 0 * 256 + getD t (at + 1) 0 ≡ big (take 2 (drop at t))
+big-two at t h =
+    let a : getD (drop at t) 0 0 ≡ getD t at 0 = rw (getD-drop, add-zero) in
+    let b : getD (drop at t) 1 0 ≡ getD t (at + 1) 0 = rw getD-drop in
+    omega (arith, two (drop at t) (rw length-drop (omega arith)))
+
+pub big-exchanged : (u : List ℕ) → 2 ≤ length u → getD u 0 0 < 256 → getD u 1 0 < 256 → big (take 2 u) ≡ little 2 u % 256 * 256 + little 2 u / 256
+unfolding little
+big-exchanged u h p q =
+    let b : getD (drop 1 u) 0 0 ≡ getD u 1 0 = rw getD-drop in
+    omega (arith, two u h)
+
+-- two numbers of 16 bits in one of 32
+pub little-four : (at : ℕ) (t : List ℕ) {a b : ℕ} → a ≡ little 2 (drop at t) → b ≡ little 2 (drop (at + 2) t) → a + 65536 * b ≡ little 4 (drop at t)
+unfolding little
+little-four at t p q = rw (p, q, ← drop-drop 2 at t) (go (drop at t))
+  where
+    go : (u : List ℕ) → little 2 u + 65536 * little 2 (drop 2 u) ≡ little 4 u
+    go u =
+        let x = ap (λ (l : List ℕ). getD l 0 0) (drop-drop 1 1 u) in
+        let y = ap (λ (l : List ℕ). getD (drop 1 l) 0 0) (drop-drop 1 1 u) in
+        omega (arith, x, y)
+
+pub big-four : (at : ℕ) (t : List ℕ) {a b : ℕ} → at + 4 ≤ length t → a ≡ big (take 2 (drop at t)) → b ≡ big (take 2 (drop (at + 2) t)) → a * 65536 + b ≡ big (take 4 (drop at t))
+unfolding bigFrom
+big-four at t h p q = rw (p, q, ← drop-drop 2 at t) (go (drop at t) (rw length-drop (omega arith)))
+  where
+    go : (u : List ℕ) → 4 ≤ length u → big (take 2 u) * 65536 + big (take 2 (drop 2 u)) ≡ big (take 4 u)
+    go [] l = absurd (not-suc-le-zero l)
+    go (a ∷ []) l = absurd (not-suc-le-zero (le-of-suc-le-suc l))
+    go (a ∷ b ∷ []) l = absurd (not-suc-le-zero (le-of-suc-le-suc (le-of-suc-le-suc l)))
+    go (a ∷ b ∷ c ∷ []) l = absurd (not-suc-le-zero (le-of-suc-le-suc (le-of-suc-le-suc (le-of-suc-le-suc l))))
+    go (a ∷ b ∷ c ∷ d ∷ u) l = omega arith

@@ -5,7 +5,6 @@ ghost use lib.ListN.{length, take, drop};
 ghost use lib.Dec.{leb};
 ghost use Rattle.lists.specs.Choose.{if_then_else_};
 ghost use Rattle.lists.specs.Bytes.{little, big};
-ghost use Rattle.layout.specs.Form.{widthBytes};
 ghost use Rattle.byte_order.specs.Numbers.{numbers, numberAt};
 use layout::Width;
 
@@ -15,47 +14,11 @@ pub enum ByteOrder {
     Big,
 }
 
-// The number in the w bytes of t from `from` on, most significant first.
-fn read_be(t: &[u8], w: usize, from: usize) -> u32
-    requires { ⌜ (w ≤ 4) × (from + w ≤ length (now t)) ⌝ }
-    ensures { λ r. ⌜ r ≡ big (take w (drop from (now (t .entry)))) ⌝ }
-{
-    let mut v: u32 = 0;
-    let mut i = 0;
-    while i < w {
-        let at = from + i;
-        v = v * 256 + (t[at] as u32);
-        i += 1;
-    }
-    v
-}
-
-// Number k of t, and 0 where t ends before it does.
-pub fn number_at(t: &[u8], order: ByteOrder, w: Width, k: usize) -> u32
-    ensures { λ r. ⌜ r ≡ numberAt order (widthBytes w) k (now (t .entry)) ⌝ }
-{
-    match order {
-        ByteOrder::Little => table::entry(t, w, k),
-        ByteOrder::Big => big_number_at(t, w, k),
-    }
-}
-
-fn big_number_at(t: &[u8], w: Width, k: usize) -> u32
-    ensures { λ r. ⌜ r ≡ numberAt ByteOrder.Big (widthBytes w) k (now (t .entry)) ⌝ }
-{
-    let each = layout::width_bytes(w);
-    if k < t.len() / each {
-        let at = k * each;
-        read_be(t, each, at)
-    } else {
-        0
-    }
-}
-
 // The 16-bit number at `at`, least significant byte first.
 fn little16(t: &[u8], at: usize) -> u32
     requires { ⌜ at + 2 ≤ length (now t) ⌝ }
     ensures { λ r. ⌜ r ≡ little 2 (drop at (now (t .entry))) ⌝ }
+    ensures { λ r. ⌜ r < 65536 ⌝ }
 {
     let next = at + 1;
     t[at] as u32 + 256 * (t[next] as u32)
@@ -67,6 +30,48 @@ fn exchanged(v: u32) -> u32
     ensures { λ r. ⌜ r ≡ v % 256 * 256 + v / 256 ⌝ }
 {
     v * 65537 / 256 % 65536
+}
+
+// The 32-bit number at `at`, least significant byte first. Without a loop, so that it is a single load.
+fn little32(t: &[u8], at: usize) -> u32
+    requires { ⌜ at + 4 ≤ length (now t) ⌝ }
+    ensures { λ r. ⌜ r ≡ little 4 (drop at (now (t .entry))) ⌝ }
+{
+    let next = at + 2;
+    little16(t, at) + 65536 * little16(t, next)
+}
+
+// The 16-bit number at `at`, most significant byte first.
+fn big16(t: &[u8], at: usize) -> u32
+    requires { ⌜ at + 2 ≤ length (now t) ⌝ }
+    ensures { λ r. ⌜ r ≡ big (take 2 (drop at (now (t .entry)))) ⌝ }
+    ensures { λ r. ⌜ r < 65536 ⌝ }
+{
+    let next = at + 1;
+    t[at] as u32 * 256 + (t[next] as u32)
+}
+
+// The 32-bit number at `at`, most significant byte first.
+fn big32(t: &[u8], at: usize) -> u32
+    requires { ⌜ at + 4 ≤ length (now t) ⌝ }
+    ensures { λ r. ⌜ r ≡ big (take 4 (drop at (now (t .entry)))) ⌝ }
+{
+    let next = at + 2;
+    big16(t, at) * 65536 + big16(t, next)
+}
+
+// 32-bit number k of t, and 0 where t ends before it does.
+pub fn number_at(t: &[u8], order: ByteOrder, k: usize) -> u32
+    ensures { λ r. ⌜ r ≡ numberAt order 4 k (now (t .entry)) ⌝ }
+{
+    if t.len() / 4 <= k {
+        return 0;
+    }
+    let at = k * 4;
+    match order {
+        ByteOrder::Little => little32(t, at),
+        ByteOrder::Big => big32(t, at),
+    }
 }
 
 fn load_big16(t: &[u8], out: &mut [u32]) -> bool

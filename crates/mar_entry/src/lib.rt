@@ -3,7 +3,6 @@ ghost use mathlib.Core.Path.{_≡_};
 ghost use lib.Ieee.{binary32, ofBits};
 ghost use Rattle.mar_entry.specs.Entry.{valueOf, entryIn, entryOf};
 use byte_order::ByteOrder;
-use layout::Width;
 use mar_header::MarHeaderAnswer;
 use refusal::Refusal;
 
@@ -52,7 +51,7 @@ fn entry_in(file: &[u8], order: ByteOrder, entry: u32) -> MarEntryAnswer
         return MarEntryAnswer::Refused(Refusal::NoSuchEntry);
     }
     let k = entry as usize - 1;
-    let bits = byte_order::number_at(file, order, Width::Four, k);
+    let bits = byte_order::number_at(file, order, k);
     MarEntryAnswer::Value(value_of(entry, bits))
 }
 

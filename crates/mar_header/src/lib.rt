@@ -3,7 +3,6 @@ ghost use mathlib.Core.Path.{_≡_};
 ghost use Rattle.mar_header.specs.Plate.{sidePixels, sideFrom, recordsFor};
 ghost use Rattle.mar_header.specs.MarHeader.{startBy, startOf, consistent, plateHeader, marHeader};
 use byte_order::ByteOrder;
-use layout::Width;
 use refusal::Refusal;
 
 // 1200 or 2000 pixels.
@@ -86,8 +85,8 @@ fn start_of(file: &[u8]) -> Start
     if file.len() < 4 {
         return Start::Unknown;
     }
-    let little = byte_order::number_at(file, ByteOrder::Little, Width::Four, 0);
-    let big = byte_order::number_at(file, ByteOrder::Big, Width::Four, 0);
+    let little = byte_order::number_at(file, ByteOrder::Little, 0);
+    let big = byte_order::number_at(file, ByteOrder::Big, 0);
     start_by(side_from(little), side_from(big))
 }
 
@@ -96,14 +95,14 @@ fn is_consistent(file: &[u8], order: ByteOrder, side: Side) -> bool
     ensures { λ r. ⌜ r ≡ consistent order side (now (file .entry)) ⌝ }
 {
     let pixels = side_pixels(side);
-    if byte_order::number_at(file, order, Width::Four, 1) != pixels {
+    if byte_order::number_at(file, order, 1) != pixels {
         return false;
     }
-    if byte_order::number_at(file, order, Width::Four, 2) != pixels * 2 {
+    if byte_order::number_at(file, order, 2) != pixels * 2 {
         return false;
     }
-    let pairs = byte_order::number_at(file, order, Width::Four, 4);
-    byte_order::number_at(file, order, Width::Four, 5) == records_for(side, pairs)
+    let pairs = byte_order::number_at(file, order, 4);
+    byte_order::number_at(file, order, 5) == records_for(side, pairs)
 }
 
 fn header_at(file: &[u8], order: ByteOrder, side: Side) -> MarHeader
@@ -112,7 +111,7 @@ fn header_at(file: &[u8], order: ByteOrder, side: Side) -> MarHeader
     MarHeader {
         order,
         side,
-        pairs: byte_order::number_at(file, order, Width::Four, 4),
+        pairs: byte_order::number_at(file, order, 4),
     }
 }
 

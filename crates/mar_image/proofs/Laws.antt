@@ -3,13 +3,13 @@
 use mathlib.Core.Path.{_≡_, refl, sym, ap, _∙_}
 use mathlib.Core.Bool.{Bool, true, false, _&&_}
 use mathlib.Core.List.{List, [], _∷_}
-use Prim.Native.Nat.{ℕ, zero, suc, _+_, _-_, _*_, _≤_, _<_}
+use Prim.Native.Nat.{ℕ, zero, suc, _+_, _-_, _*_, _<_}
 use native.Mathlib.Nat.{le-of-suc-le-suc, not-suc-le-zero}
 use native.Mathlib.Omega.{arith}
 use lib.ListN.{length, getD, take, drop, length-drop}
 use lib.Seq.{drop-drop, take-all}
-use lib.Dec.{eqb, leb, ltb}
-use borrow.Author.Tests.{eqb-true, eqb-false, ltb-true, le-leb}
+use lib.Dec.{eqb, ltb}
+use borrow.Author.Tests.{eqb-true, eqb-false, ltb-true}
 use Rattle.lists.specs.Choose.{if_then_else_}
 use Rattle.lists.specs.Bytes.{zeros}
 use Rattle.lists.proofs.Tests.{and-true-right}
@@ -82,12 +82,8 @@ module _ (vs : List ℕ) (es : List Entry) (apart : Apart 65535 es) where
   placed-pixels g = rw none-yet at (whole .pixels g)
 
 -- the two ways out of the filling: px₁ of the load, checked and px₂ of the loop over the pairs
-module _ (o : ByteOrder) (n : ℕ) (image t px₀ px₁ px₂ : List ℕ) (checked : Checked) (room : length px₀ * 2 ≤ length image)
-    (load : px₁ ≡ if_then_else_ (leb (length px₀ * 2) (length image)) (numbers o 2 (length px₀) image) px₀)
+module _ (o : ByteOrder) (n : ℕ) (image t px₀ px₁ px₂ : List ℕ) (checked : Checked) (loaded : px₁ ≡ numbers o 2 (length px₀) image)
     (went : (checked ≡ placing 65535 px₁ 0 (pairEntries o n t)) × (px₂ ≡ placed 65535 px₁ (pairEntries o n t))) where
-  loaded : px₁ ≡ numbers o 2 (length px₀) image
-  loaded = load ∙ rw (le-leb _ _ room)
-
   is : checked ≡ checkedPairs (numbers o 2 (length px₀) image) (pairEntries o n t)
   is = went .0 ∙ rw loaded (placed-first (numbers o 2 (length px₀) image) (pairEntries o n t) (pairs-apart o n t))
 

@@ -27,7 +27,8 @@ add-result : tie.Need-add-result
 add-result c = omega (arith, c .before .shared-slice-known .given (c .before .before .args .at), c .shared-slice-known2 .given (c .before .before .args .at + 1))
 
 returns : tie.Need-returns
-returns c = little-two (c .before .before .args .at) (c .before .before .args .t .now)
+returns c =
+    (little-two (c .before .before .args .at) (c .before .before .args .t .now), omega (arith, c .before .shared-slice-known .given (c .before .before .args .at), c .shared-slice-known2 .given (c .before .before .args .at + 1)))
 
 pub little16-spec : {M : Type 1} → statement M
 little16-spec =

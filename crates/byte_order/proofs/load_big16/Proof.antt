@@ -7,7 +7,7 @@ use borrow.Author.Tests.{le-leb, lt-leb}
 use Rattle.lists.proofs.Writing.{Writing, writing-start, writing-more, writing-whole}
 use Rattle.byte_order.specs.declared.ByteOrder.the-variants as O
 use Rattle.byte_order.specs.Numbers.{number, numbers}
-use Rattle.byte_order.proofs.Laws.{length-numbers, numbers-at, big-exchanged, little-sixteen}
+use Rattle.byte_order.proofs.Laws.{length-numbers, numbers-at, big-exchanged}
 use Rattle.byte_order.proofs.load_big16.Statement.{statement}
 use Rattle.byte_order.proofs.load_big16.Tie as tie
 
@@ -34,7 +34,7 @@ byte : (c : tie.After-little16 Inv-loop μ-loop) (i : ℕ) → getD (drop (c .be
 byte c i = rw getD-drop (omega (arith, c .before .before .before .before .before .shared-slice-known .given (c .before .before .loop .at + i)))
 
 exchanged-requires : tie.Need-exchanged-requires Inv-loop μ-loop
-exchanged-requires c κs = rw (c .little16 .ensures) (little-sixteen _ (byte c))
+exchanged-requires c κs = c .little16 .ensures .1
 
 mul-out : tie.Need-mul-out Inv-loop μ-loop
 mul-out c = omega arith
@@ -57,7 +57,7 @@ loop-again c =
     let l = c .before .before .before .loop in
     let a = c .before .before .before .before .before .before .before .args in
     let u = drop (l .at) (a .t .now) in
-    let x = c .exchanged .ensures ∙ ap (λ (v : ℕ). v % 256 * 256 + v / 256) (c .before .little16 .ensures) in
+    let x = c .exchanged .ensures ∙ ap (λ (v : ℕ). v % 256 * 256 + v / 256) (c .before .little16 .ensures .0) in
     let b = big-exchanged u (rw length-drop (omega arith)) (byte (c .before) 0) (byte (c .before) 1) in
     (writing-more _ (l .inv .0) (rw length-numbers (omega arith)) (x ∙ sym b ∙ rw (numbers-at O.Big 2 (length (a .out .now)) (a .t .now) (l .i) (omega arith), l .inv .1)), omega arith)
 
