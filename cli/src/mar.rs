@@ -75,7 +75,7 @@ impl Entries {
         let (columns, rows, pairs, records) = (self.whole(1), self.whole(2), self.whole(5), self.whole(6));
         let name = shown(file);
         let start = format!(
-            "{name}: mar image, {rows} rows, {columns} columns, {pairs} high-intensity pixels in {records} records\n  \
+            "{name}: mar image, {rows} rows, {columns} columns\n  high-intensity: pairs {pairs}, records {records}\n  \
              image ends at byte {end} of {length}"
         );
         let lines = self.0.iter().zip(NAMES).zip(1..);

@@ -29,7 +29,8 @@ fn image(side: u32, pairs: &[(u32, u32)]) -> Vec<u8> {
 const LAST: u32 = 1200 * 1200;
 
 const INFO: &str = "\
-a.image: mar image, 1200 rows, 1200 columns, 1 high-intensity pixels in 1 records
+a.image: mar image, 1200 rows, 1200 columns
+  high-intensity: pairs 1, records 1
   image ends at byte 2884800 of 2884803
    1 pixels in x: 1200
    2 pixels in y: 1200
