@@ -1,10 +1,10 @@
 -- Laws of numbers in either byte order.
 -- Assumes nothing.
-use mathlib.Core.Path.{_≡_, refl, ap}
+use mathlib.Core.Path.{_≡_, refl, sym, ap}
 use mathlib.Core.Bool.{Bool, true, false}
 use mathlib.Core.List.{List, [], _∷_}
-use Prim.Native.Nat.{ℕ, zero, suc, _+_, _*_, _-_, _/_, _%_, _≤_, _<_}
-use native.Mathlib.Nat.{add-zero, le-of-suc-le-suc, not-suc-le-zero, suc-mul, zero-mul, div-lt-iff-lt-mul}
+use Prim.Native.Nat.{ℕ, suc, _+_, _*_, _-_, _/_, _%_, _≤_, _<_}
+use native.Mathlib.Nat.{add-zero, le-of-suc-le-suc, not-suc-le-zero, suc-mul, div-lt-iff-lt-mul}
 use native.Mathlib.Omega.{arith}
 use lib.ListN.{length, take, drop, getD, length-take, length-drop}
 use lib.Seq.{drop-drop, take-all, take-take, getD-drop}
@@ -12,62 +12,39 @@ use lib.Dec.{leb}
 use borrow.Author.Tests.{le-leb, lt-leb, leb-true, leb-false}
 use Rattle.lists.specs.Bytes.{little, bigFrom, big}
 use Rattle.lists.proofs.Parts.{drop-take}
+use Rattle.lists.proofs.Chunks.{chunked-length, chunked-at, chunked-part, chunked-front}
 use Rattle.table.specs.Table.{entries}
-use Rattle.table.proofs.Laws.{whole-within, entries-take}
+use Rattle.table.proofs.Laws.{whole-within, entries-chunked, little-take}
 use Rattle.byte_order.specs.declared.ByteOrder.{ByteOrder}
 use Rattle.byte_order.specs.declared.ByteOrder.the-variants as O
 use Rattle.byte_order.specs.Numbers.{number, numbers, numberAt}
 
 pub length-numbers : (o : ByteOrder) (w n : ℕ) (t : List ℕ) → length (numbers o w n t) ≡ n
 unfolding numbers
-length-numbers o w zero t = refl
-length-numbers o w (suc n) t = ap suc (length-numbers o w n (drop w t))
+length-numbers o w n t = chunked-length (number o w) w n t
 
 pub numbers-at : (o : ByteOrder) (w n : ℕ) (t : List ℕ) (k : ℕ) → k < n → getD (numbers o w n t) k 0 ≡ number o w (drop (k * w) t)
 unfolding numbers
-numbers-at o w zero t k h = absurd (not-suc-le-zero h)
-numbers-at o w (suc n) t zero h = rw zero-mul
-numbers-at o w (suc n) t (suc k) h =
-    let e : suc k * w ≡ w + k * w = omega (arith, suc-mul k w) in
-    rw (e, ← drop-drop (k * w) w t) (numbers-at o w n (drop w t) k (le-of-suc-le-suc h))
-
--- s numbers from p on
-drop-numbers : (o : ByteOrder) (w p n : ℕ) (t : List ℕ) → drop p (numbers o w n t) ≡ numbers o w (n - p) (drop (p * w) t)
-unfolding numbers
-drop-numbers o w zero n t = let f : n - 0 ≡ n = omega arith in rw (zero-mul, f)
-drop-numbers o w (suc p) zero t = let f : 0 - suc p ≡ 0 = omega arith in rw f
-drop-numbers o w (suc p) (suc n) t =
-    let e : suc p * w ≡ w + p * w = omega (arith, suc-mul p w) in
-    let f : suc n - suc p ≡ n - p = omega arith in
-    rw (e, f, ← drop-drop (p * w) w t) (drop-numbers o w p n (drop w t))
-
-take-numbers : (o : ByteOrder) (w s n : ℕ) (t : List ℕ) → s ≤ n → take s (numbers o w n t) ≡ numbers o w s t
-unfolding numbers
-take-numbers o w zero n t h = refl
-take-numbers o w (suc s) zero t h = absurd (not-suc-le-zero h)
-take-numbers o w (suc s) (suc n) t h = rw (take-numbers o w s n (drop w t) (le-of-suc-le-suc h))
+numbers-at o w n t k h = chunked-at (number o w) w n t k h
 
 pub numbers-part : (o : ByteOrder) (w n p s : ℕ) (t : List ℕ) → p + s ≤ n → take s (drop p (numbers o w n t)) ≡ numbers o w s (drop (p * w) t)
-numbers-part o w n p s t h = rw (drop-numbers o w p n t, take-numbers o w s (n - p) (drop (p * w) t) (omega arith))
+unfolding numbers
+numbers-part o w n p s t h = chunked-part (number o w) w n p s t h
 
 -- least significant byte first: the entries of a table
 pub numbers-little : (w n : ℕ) (t : List ℕ) → numbers O.Little w n t ≡ entries w n t
-unfolding numbers number entries
-numbers-little w zero t = refl
-numbers-little w (suc n) t = rw (numbers-little w n (drop w t))
+unfolding numbers number
+numbers-little w n t = sym (entries-chunked w n t)
 
 -- bytes past the numbers do not count
 number-take : (o : ByteOrder) (w m : ℕ) (t : List ℕ) → w ≤ m → number o w (take m t) ≡ number o w t
-unfolding number entries
-number-take O.Little w m t h = ap (λ (l : List ℕ). getD l 0 0) (entries-take w 1 m t (omega (arith, suc-mul 0 w, zero-mul w)))
+unfolding number
+number-take O.Little w m t h = little-take w m t h
 number-take O.Big w m t h = ap big (take-take w m t h)
 
 pub numbers-take : (o : ByteOrder) (w n m : ℕ) (t : List ℕ) → n * w ≤ m → numbers o w n (take m t) ≡ numbers o w n t
 unfolding numbers
-numbers-take o w zero m t h = refl
-numbers-take o w (suc n) m t h =
-    let s : suc n * w ≡ n * w + w = suc-mul n w in
-    rw (number-take o w m t (omega arith), drop-take w m t, numbers-take o w n (m - w) (drop w t) (omega arith))
+numbers-take o w n m t h = chunked-front (number o w) w (number-take o w) n m t h
 
 -- number k, by how many whole ones t has
 pub number-whole : (o : ByteOrder) (w k : ℕ) (t : List ℕ) → k < length t / w → numberAt o w k t ≡ number o w (drop (k * w) t)

@@ -19,7 +19,8 @@ use Rattle.layout.specs.declared.BinaryTables.{BinaryTables}
 use Rattle.layout.specs.Form.{widthBytes}
 use Rattle.layout.specs.Layout.{pixelCount, imageEnd, twoStart, fourStart, tableBytes, underflowCount, underflowWidth, binaryEnd}
 use Rattle.table.specs.Table.{entries, allZero}
-use Rattle.table.proofs.Laws.{length-entries, drop-take, entries-take}
+use Rattle.lists.proofs.Parts.{drop-take}
+use Rattle.table.proofs.Laws.{length-entries, entries-take}
 use Rattle.expand.specs.Steps.{takenA, takenB, takenC, exhausted, appliesA, appliesB, afterA, afterB}
 use Rattle.expand.specs.Expand.{storedOf, tablePaddingZero, paddingZero, appliesC, tablesExhausted, baselineTooLarge, framePixels, binaryAnswer, binaryPixels, baselineOf, firstPixels}
 use Rattle.expand.specs.declared.Expanded.{Expanded}

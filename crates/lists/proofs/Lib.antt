@@ -6,3 +6,4 @@ pub mod Below
 pub mod Parts
 pub mod Same
 pub mod Over
+pub mod Chunks

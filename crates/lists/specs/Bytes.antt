@@ -10,6 +10,11 @@ unfoldable pub little : ℕ → List ℕ → ℕ
 little zero t = 0
 little (suc w) t = getD t 0 0 + 256 * little w (drop 1 t)
 
+-- the first n numbers at the front of t, of w bytes each, as `read` takes one from a front
+unfoldable pub chunked : (List ℕ → ℕ) → ℕ → ℕ → List ℕ → List ℕ
+chunked read w zero t = []
+chunked read w (suc n) t = read t ∷ chunked read w n (drop w t)
+
 -- the w bytes of v, least significant first
 unfoldable pub littleBytes : ℕ → ℕ → List ℕ
 littleBytes zero v = []

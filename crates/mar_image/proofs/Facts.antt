@@ -2,13 +2,13 @@
 -- Assumes nothing.
 use mathlib.Core.Path.{_≡_, refl, sym, _∙_}
 use mathlib.Core.Bool.{Bool, true, false}
-use mathlib.Core.List.{List, [], _∷_, _++_}
-use Prim.Native.Nat.{ℕ, suc, _+_, _-_, _*_, _≤_}
+use mathlib.Core.List.{List, [], _++_}
+use Prim.Native.Nat.{ℕ, _+_, _-_, _*_, _≤_}
 use native.Mathlib.Omega.{arith}
 use lib.ListN.{length, take, drop, length-replicate}
 use lib.Seq.{drop-at}
 use lib.Dec.{ltb}
-use borrow.Author.Tests.{le-ltb}
+use borrow.Author.Tests.{le-ltb, ltb-false}
 use Rattle.lists.proofs.Parts.{drop-take}
 use Rattle.refusal.specs.declared.Refusal.{Refusal}
 use Rattle.refusal.specs.declared.Refusal.the-variants as R
@@ -16,30 +16,21 @@ use Rattle.layout.specs.declared.Width.the-variants as W
 use Rattle.marks.specs.declared.Entry.{Entry}
 use Rattle.marks.specs.declared.Checked.{Checked}
 use Rattle.marks.specs.declared.Checked.the-variants as C
-use Rattle.marks.specs.Marks.{isGood, firstBad, withEntries, pixelsBy}
+use Rattle.marks.specs.Marks.{withEntries, pixelsBy}
 use Rattle.marks.proofs.Laws.{with-length}
+use Rattle.marks.proofs.Facts.{Standing, good-stands, stands-good, bad-is-entry}
 use Rattle.byte_order.specs.Numbers.{numbers}
 use Rattle.byte_order.proofs.Laws.{length-numbers, numbers-take}
 use Rattle.mar_header.specs.declared.Side.{Side}
 use Rattle.mar_header.specs.declared.MarHeader.{MarHeader}
 use Rattle.mar_header.specs.declared.MarHeaderAnswer.{MarHeaderAnswer}
 use Rattle.mar_header.specs.declared.MarHeaderAnswer.the-variants as H
-use Rattle.mar_header.specs.Plate.{platePixelCount}
+use Rattle.mar_header.specs.Plate.{sidePixels, platePixelCount}
 use Rattle.mar_header.specs.MarHeader.{marHeader}
 use Rattle.mar_image.specs.declared.MarAnswer.the-variants as A
 use Rattle.mar_image.specs.Pairs.{pairEntries}
 use Rattle.mar_image.proofs.Frame.{pairs-take}
 use Rattle.mar_image.specs.MarImage.{imageStart, imageEnd, plateEnd, storedImage, storedPairs, checkedPairs, platePixels, answerBy, imageAnswer, imagePixels, marAnswer, marPixels}
-
--- a bad pair gives refusal 13 and no other
-bad-is-entry : (vs : List ℕ) (earlier : List Entry) (k : ℕ) (es : List Entry) {r : Refusal} → firstBad W.Two vs earlier k es ≡ C.Refused r → ((j : ℕ) → r ≡ R.BadEntry j → ⊥) → ⊥
-unfolding firstBad
-bad-is-entry vs earlier k [] h n = let y : _≡_ {A = ℕ} 0 1 = cc in omega arith
-bad-is-entry vs earlier k (e ∷ es) {r} h n = go (isGood W.Two vs earlier e) refl (λ q. bad-is-entry vs (earlier ++ (e ∷ [])) (suc k) es q n)
-  where
-    go : (b : Bool) → isGood W.Two vs earlier e ≡ b → (firstBad W.Two vs (earlier ++ (e ∷ [])) (suc k) es ≡ C.Refused r → ⊥) → ⊥
-    go true q f = f (rw q at h)
-    go false q f = let z : C.Refused (R.BadEntry k) ≡ C.Refused r = rw q at h in n k (cc)
 
 answer-refused : (s : Side) (end : ℕ) {r : Refusal} (c : Checked) → answerBy s end c ≡ A.Refused r → c ≡ C.Refused r
 answer-refused s end C.Good q = absurd (let y : _≡_ {A = ℕ} 0 1 = cc in omega arith)
@@ -65,7 +56,7 @@ module _ (bytes px : List ℕ) (h : MarHeader) (header : marHeader bytes ≡ H.A
       go : (b : Bool) → ltb (length px) (platePixelCount (h .side)) ≡ b → (d : Bool) → ltb (length bytes) (plateEnd h) ≡ d → imagePixels bytes h px ≡ px
       go true p d q = rw p
       go false p true q = rw (p, q)
-      go false p false q = absurd (bad-is-entry (storedImage bytes h) [] 0 (storedPairs bytes h) (answer-refused (h .side) (plateEnd h) (checkedPairs (storedImage bytes h) (storedPairs bytes h)) (rw (p, q) at a)) n)
+      go false p false q = absurd (bad-is-entry W.Two (storedImage bytes h) [] 0 (storedPairs bytes h) (answer-refused (h .side) (plateEnd h) (checkedPairs (storedImage bytes h) (storedPairs bytes h)) (rw (p, q) at a)) n)
 
   -- places past N are never written
   pub past-kept : drop (platePixelCount (h .side)) (marPixels bytes px) ≡ drop (platePixelCount (h .side)) px
@@ -78,9 +69,12 @@ module _ (bytes px : List ℕ) (h : MarHeader) (header : marHeader bytes ≡ H.A
       go false p true q = rw (p, q)
       go false p false q = rw (p, q) (drop-at (platePixels (storedImage bytes h) (storedPairs bytes h)) (drop (platePixelCount (h .side)) px) (platePixelCount (h .side)) (rw (plate-length, length-numbers)))
 
-  -- the pairs of an accepted plate all stand, and the array has the stored image with their counts; a 65535 without a pair stays
+  -- an accepted plate: the array and the file are long enough, every pair is well formed and at a pixel of 65535, no pixel has two, and the
+  -- array has the stored image with their counts; a 65535 without a pair stays
   pub record Accepted : Type 0 where
-    pub stand : firstBad W.Two (storedImage bytes h) [] 0 (storedPairs bytes h) ≡ C.Good
+    pub room : platePixelCount (h .side) ≤ length px
+    pub whole : plateEnd h ≤ length bytes
+    pub stand : Standing W.Two (storedImage bytes h) (storedPairs bytes h)
     pub pixels : marPixels bytes px ≡ withEntries 65535 W.Two (storedPairs bytes h) 0 (storedImage bytes h) ++ drop (platePixelCount (h .side)) px
 
   pub accepted : {side end : ℕ} → marAnswer bytes (length px) ≡ A.Plate side end → Accepted
@@ -92,7 +86,18 @@ module _ (bytes px : List ℕ) (h : MarHeader) (header : marHeader bytes ≡ H.A
       go false p true q = absurd (let z : A.Refused R.DataTruncated ≡ A.Plate side end = rw (header, p, q) at a in let y : _≡_ {A = ℕ} 0 1 = cc in omega arith)
       go false p false q =
           let g : checkedPairs (storedImage bytes h) (storedPairs bytes h) ≡ C.Good = answer-plate (h .side) (plateEnd h) (checkedPairs (storedImage bytes h) (storedPairs bytes h)) (rw (header, p, q) at a) in
-          record { stand = g; pixels = rw (header, p, q, g) }
+          record {
+            room = ltb-false _ _ p;
+            whole = ltb-false _ _ q;
+            stand = good-stands W.Two (storedImage bytes h) (storedPairs bytes h) g;
+            pixels = rw (header, p, q, g);
+          }
+
+  -- and where room, file and pairs are so, the plate is accepted
+  pub accepted-if : platePixelCount (h .side) ≤ length px → plateEnd h ≤ length bytes → Standing W.Two (storedImage bytes h) (storedPairs bytes h)
+      → marAnswer bytes (length px) ≡ A.Plate (sidePixels (h .side)) (plateEnd h)
+  unfolding marAnswer imageAnswer
+  accepted-if r k s = rw (header, le-ltb _ _ r, le-ltb _ _ k, stands-good W.Two (storedImage bytes h) (storedPairs bytes h) s)
 
 -- only refusal 13 touches the array
 pub only-13-touches : (bytes px : List ℕ) {r : Refusal} → marAnswer bytes (length px) ≡ A.Refused r → ((j : ℕ) → r ≡ R.BadEntry j → ⊥) → marPixels bytes px ≡ px

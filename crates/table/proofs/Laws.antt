@@ -1,6 +1,6 @@
 -- Laws of the entries of a table.
 -- Assumes nothing.
-use mathlib.Core.Path.{_≡_, refl, sym, ap, _∙_}
+use mathlib.Core.Path.{_≡_, refl, sym, _∙_}
 use mathlib.Core.Bool.{Bool, true, false, _&&_, and-true, and-false}
 use mathlib.Core.List.{List, [], _∷_, _++_}
 use Prim.Native.Nat.{ℕ, zero, suc, _+_, _*_, _-_, _/_, _≤_, _<_}
@@ -9,30 +9,30 @@ use native.Mathlib.Numerals.{add-one}
 use native.Mathlib.Omega.{arith}
 use lib.ListN.{length, take, drop, getD, set, List·getD-eq-default, length-drop, drop-of-length-le}
 use lib.Dec.{eqb}
-use lib.Seq.{take-suc, drop-drop, take-all, take-nil, length-take-le}
+use lib.Seq.{take-suc, take-all, length-take-le}
 use borrow.Author.Tests.{eq-eqb, ne-eqb}
-use Rattle.lists.specs.Bytes.{little}
+use Rattle.lists.specs.Bytes.{little, chunked}
+use Rattle.lists.proofs.Chunks.{chunked-length, chunked-at, chunked-drop, chunked-take, chunked-part, chunked-front}
 use Rattle.layout.specs.declared.Width.{Width}
 use Rattle.layout.specs.declared.Width.the-variants as W
 use Rattle.layout.specs.Form.{widthBytes}
 use Rattle.lists.proofs.Writing.{Writing, writing-start, writing-more}
 use Rattle.table.specs.Table.{entries, wholeEntries, allZero}
 
+-- entries are numbers read least significant byte first
+pub entries-chunked : (w n : ℕ) (t : List ℕ) → entries w n t ≡ chunked (little w) w n t
+unfolding entries chunked
+entries-chunked w zero t = refl
+entries-chunked w (suc n) t = rw (entries-chunked w n (drop w t))
+
 pub length-entries : (w n : ℕ) (t : List ℕ) → length (entries w n t) ≡ n
-unfolding entries
-length-entries w zero t = refl
-length-entries w (suc n) t = ap suc (length-entries w n (drop w t))
+length-entries w n t = rw entries-chunked (chunked-length (little w) w n t)
 
 pub entries-out : (w n k : ℕ) (t : List ℕ) → n ≤ k → getD (entries w n t) k 0 ≡ 0
 entries-out w n k t h = List·getD-eq-default (entries w n t) 0 {n = k} (rw length-entries h)
 
 pub entries-at : (w n : ℕ) (t : List ℕ) (k : ℕ) → k < n → getD (entries w n t) k 0 ≡ little w (drop (k * w) t)
-unfolding entries
-entries-at w zero t k h = absurd (not-suc-le-zero h)
-entries-at w (suc n) t zero h = rw zero-mul
-entries-at w (suc n) t (suc k) h =
-    let e : suc k * w ≡ w + k * w = omega (arith, suc-mul k w) in
-    rw (e, ← drop-drop (k * w) w t) (entries-at w n (drop w t) k (le-of-suc-le-suc h))
+entries-at w n t k h = rw entries-chunked (chunked-at (little w) w n t k h)
 
 -- an entry before the end lies within the table
 pub within : (k n w : ℕ) → k < n → k * w + w ≤ n * w
@@ -42,25 +42,14 @@ within k n w h = rw (← suc-mul) (mul-le-mul-right w h)
 pub whole-within : (w k : ℕ) (t : List ℕ) → k < length t / w → k * w + w ≤ length t
 whole-within w k t h = omega (arith, within k (length t / w) w h, div-mul-le-self (length t) w)
 
--- the entries from p on
 pub drop-entries : (w p n : ℕ) (t : List ℕ) → drop p (entries w n t) ≡ entries w (n - p) (drop (p * w) t)
-unfolding entries
-drop-entries w zero n t = let f : n - 0 ≡ n = omega arith in rw (zero-mul, f)
-drop-entries w (suc p) zero t = let f : 0 - suc p ≡ 0 = omega arith in rw f
-drop-entries w (suc p) (suc n) t =
-    let e : suc p * w ≡ w + p * w = omega (arith, suc-mul p w) in
-    let f : suc n - suc p ≡ n - p = omega arith in
-    rw (e, f, ← drop-drop (p * w) w t) (drop-entries w p n (drop w t))
+drop-entries w p n t = rw (entries-chunked w n t, entries-chunked w (n - p) (drop (p * w) t)) (chunked-drop (little w) w p n t)
 
 pub take-entries : (w s n : ℕ) (t : List ℕ) → s ≤ n → take s (entries w n t) ≡ entries w s t
-unfolding entries
-take-entries w zero n t h = refl
-take-entries w (suc s) zero t h = absurd (not-suc-le-zero h)
-take-entries w (suc s) (suc n) t h = rw (take-entries w s n (drop w t) (le-of-suc-le-suc h))
+take-entries w s n t h = rw (entries-chunked w n t, entries-chunked w s t) (chunked-take (little w) w s n t h)
 
--- s entries from p on
 pub entries-part : (w n p s : ℕ) (t : List ℕ) → p + s ≤ n → take s (drop p (entries w n t)) ≡ entries w s (drop (p * w) t)
-entries-part w n p s t h = rw (drop-entries w p n t, take-entries w s (n - p) (drop (p * w) t) (omega arith))
+entries-part w n p s t h = rw (entries-chunked w n t, entries-chunked w s (drop (p * w) t)) (chunked-part (little w) w n p s t h)
 
 -- entries of one byte are the bytes
 pub entries-bytes : (n : ℕ) (t : List ℕ) → n ≤ length t → entries 1 n t ≡ take n t
@@ -72,27 +61,15 @@ entries-bytes (suc n) (b ∷ t) h =
     rw (entries-bytes n t (le-of-suc-le-suc h), e)
 
 -- bytes past the entries do not count
-little-take : (w m : ℕ) (t : List ℕ) → w ≤ m → little w (take m t) ≡ little w t
+pub little-take : (w m : ℕ) (t : List ℕ) → w ≤ m → little w (take m t) ≡ little w t
 unfolding little
 little-take zero m t h = refl
 little-take (suc w) zero t h = absurd (not-suc-le-zero h)
 little-take (suc w) (suc m) [] h = refl
 little-take (suc w) (suc m) (b ∷ t) h = rw (little-take w m t (le-of-suc-le-suc h))
 
--- the part of a front
-pub drop-take : (w m : ℕ) (t : List ℕ) → drop w (take m t) ≡ take (m - w) (drop w t)
-drop-take zero m t = let e : m - 0 ≡ m = omega arith in rw e
-drop-take (suc w) zero t = let e : 0 - suc w ≡ 0 = omega arith in rw e
-drop-take (suc w) (suc m) [] = sym (take-nil (suc m - suc w))
-drop-take (suc w) (suc m) (b ∷ t) = let e : suc m - suc w ≡ m - w = omega arith in rw e (drop-take w m t)
-
 pub entries-take : (w n m : ℕ) (t : List ℕ) → n * w ≤ m → entries w n (take m t) ≡ entries w n t
-unfolding entries
-entries-take w zero m t h = refl
-entries-take w (suc n) m t h =
-    let s : suc n * w ≡ n * w + w = suc-mul n w in
-    let e : drop w (take m t) ≡ take (m - w) (drop w t) = drop-take w m t in
-    rw (little-take w m t (omega arith), e, entries-take w n (m - w) (drop w t) (omega arith))
+entries-take w n m t h = rw (entries-chunked w n (take m t), entries-chunked w n t) (chunked-front (little w) w (little-take w) n m t h)
 
 -- the entries of a part that holds just n of them
 pub whole-part : (w n a : ℕ) (t : List ℕ) → 0 < w → a + n * w ≤ length t → wholeEntries w (take (a + n * w - a) (drop a t)) ≡ entries w n (drop a t)
