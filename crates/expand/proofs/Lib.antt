@@ -1,7 +1,7 @@
 pub mod Steps
 pub mod Loops
 pub mod Whole
-pub mod Few
+pub mod Runs
 pub mod Extents
 pub mod Parts
 pub mod Facts

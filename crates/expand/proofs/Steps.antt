@@ -47,7 +47,7 @@ pub stage : (t : Bool) (m : ℕ) (g : ℕ → ℕ) (xs ys es : List ℕ) (k : �
 stage true m g xs ys es k e = rw (fill-append, e)
 stage false m g xs ys es k e = refl
 
-count-append : (m : ℕ) (xs ys : List ℕ) → count m (xs ++ ys) ≡ count m xs + count m ys
+pub count-append : (m : ℕ) (xs ys : List ℕ) → count m (xs ++ ys) ≡ count m xs + count m ys
 unfolding count
 count-append m [] ys = omega arith
 count-append m (x ∷ xs) ys = go (eqb x m) refl (count-append m xs ys)

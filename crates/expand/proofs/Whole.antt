@@ -186,7 +186,7 @@ done-start w step base s px h = record {
   rest = refl;
 }
 
-done-more : {w : ℕ} {step : Bool} {base : ℕ} {s : Stored} {px₀ px ys : List ℕ} {t r : Taken} {p : ℕ} (e : ℕ) → Done w step base s px₀ px t p → p ≤ e → e ≤ length (s .image)
+pub done-more : {w : ℕ} {step : Bool} {base : ℕ} {s : Stored} {px₀ px ys : List ℕ} {t r : Taken} {p : ℕ} (e : ℕ) → Done w step base s px₀ px t p → p ≤ e → e ≤ length (s .image)
     → Stepped w step base (stored (take (e - p) (drop p (s .image))) (s .under) (s .two) (s .four)) ys t r → Done w step base s px₀ (putMid p (e - p) px ys) r e
 done-more {w} {step} {base} {s} {px₀} {px} {ys} {t} {r} {p} e f h k b =
     let n : p + (e - p) ≡ e = omega arith in
@@ -239,21 +239,6 @@ done-next {w} {step} {base} image {eu} {e2} {e4} {px₀} {px} {ys} {t} {r} {p} e
     let q : entries w (length (take (e - p) (drop p px))) (take (length image - p * w) (drop (p * w) image)) ≡ take (e - p) (drop p (entries w (length px₀) image))
     = rw (part-length p e px h (omega (arith, f .same)), tail-is (p * w) image, entries-part w (length px₀) p (e - p) image (omega arith)) in
     done-more e f h (omega (arith, f .room)) (rw q at b)
-
--- the same where the block's bytes are lent without what follows them
-pub done-bytes : {step : Bool} {base : ℕ} (image : List ℕ) {eu e2 e4 px₀ px ys : List ℕ} {t r : Taken} {p : ℕ} (e : ℕ)
-    → Done 1 step base (stored (entries 1 (length px₀) image) eu e2 e4) px₀ px t p → p ≤ e → e ≤ length px₀ → length px₀ ≤ length image
-    → Stepped 1 step base (stored (entries 1 (length (take (e - p) (drop p px))) (take (e - p) (drop p image))) eu e2 e4) ys t r
-    → Done 1 step base (stored (entries 1 (length px₀) image) eu e2 e4) px₀ (putMid p (e - p) px ys) r e
-done-bytes {step} {base} image {eu} {e2} {e4} {px₀} {px} {ys} {t} {r} {p} e f h k m b =
-    let l : length (take (e - p) (drop p image)) ≡ e - p = part-length p e image h (omega arith) in
-    let one : p * 1 ≡ p = omega arith in
-    let q : entries 1 (e - p) (take (e - p) (drop p image)) ≡ take (e - p) (drop p image)
-    = entries-bytes (e - p) _ (omega (arith, l)) ∙ take-all (e - p) (take (e - p) (drop p image)) (omega (arith, l)) in
-    let w : entries 1 (e - p) (drop p image) ≡ take (e - p) (drop p image) = entries-bytes (e - p) (drop p image) (rw length-drop (omega arith)) in
-    let z : take (e - p) (drop p (entries 1 (length px₀) image)) ≡ take (e - p) (drop p image)
-    = entries-part 1 (length px₀) p (e - p) image (omega arith) ∙ rw one w in
-    done-more e f h (omega (arith, f .room)) (rw (part-length p e px h (omega (arith, f .same)), q, ← z) at b)
 
 pub done-reach : {w : ℕ} {step : Bool} {base : ℕ} {s : Stored} {px₀ px : List ℕ} {t : Taken} {p : ℕ} → Done w step base s px₀ px t p → (p ≤ length px₀) × (length px ≡ length px₀)
 done-reach f = (omega (arith, f .upto, f .room), f .same)

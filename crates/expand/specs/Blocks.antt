@@ -1,5 +1,5 @@
 -- What the private functions say of themselves: the steps on one block of pixels, and on all blocks so far. No public contract cites this file.
-use Prim.Native.Nat.{ℕ, _+_, _-_, _%_}
+use Prim.Native.Nat.{ℕ, _+_, _-_, _%_, _≤_}
 use mathlib.Core.Path.{_≡_}
 use mathlib.Core.Bool.{Bool, true, false, not, _||_}
 use mathlib.Core.List.{List}
@@ -71,6 +71,21 @@ pub record Whole (w : ℕ) (step : Bool) (base : ℕ) (s : Stored) (px : List �
   pub under-is : t .under ≡ takenC w step s
   pub over-is : t .over ≡ sumsTooLarge w step base s
   pub is : px ≡ wrapIf step base (afterB w s) (s .under)
+
+-- None of the stored bytes xs takes an entry: no 255, and no 0 where step c applies.
+pub record Unmarked (step : Bool) (xs : List ℕ) : Type 0 where
+  pub no-255 : count 255 xs ≡ 0
+  pub no-0 : step ≡ true → count 0 xs ≡ 0
+
+-- A search from p to end passed the bytes before r.
+pub record Passed (step : Bool) (xs : List ℕ) (p end r : ℕ) : Type 0 where
+  pub low : p ≤ r
+  pub upto : r ≤ end
+  pub none : Unmarked step (take (r - p) (drop p xs))
+
+-- the baseline, or 0 where step c does not apply
+abbrev pub usedBaseline : Bool → ℕ → ℕ
+usedBaseline step base = if step then base else 0
 
 -- step c as the header's numbers give it
 abbrev pub stepOf : Underflows → StepC

@@ -1,9 +1,9 @@
 // FORMAT 100: from the bytes of an image and its tables to pixels, in one pass over blocks of pixels.
 ghost use mathlib.Core.Path.{_≡_};
 ghost use mathlib.Core.Bool.{true, false, _&&_, _||_};
-ghost use mathlib.Core.List.{[], map};
+ghost use mathlib.Core.List.{[], _∷_, map};
 ghost use Prim.Native.Nat.{_+_, _*_, _^_, _<_, _≤_};
-ghost use lib.ListN.{length, drop};
+ghost use lib.ListN.{length, drop, getD};
 ghost use lib.Dec.{eqb, ltb};
 ghost use Rattle.lists.specs.Choose.{if_then_else_};
 ghost use Rattle.layout.specs.Form.{widthBytes, entryBytes};
@@ -14,7 +14,7 @@ ghost use Rattle.expand.specs.Steps.{fillBy, replace, count, sumTooLarge
 ghost use Rattle.expand.specs.Expand.{binaryAnswer, binaryPixels, firstPixels, partsWhole};
 ghost use Rattle.expand.specs.Places.{extentOf, placesOf};
 ghost use Rattle.expand.specs.declared.PartsAnswer.the-variants.{Missing, At};
-ghost use Rattle.expand.specs.Blocks.{stored, partsOf, wrapped, Replaced, Lifted, Stepped, Whole, stepOf, gapZero, stepsAnswer, stepsPixels, frameAnswer};
+ghost use Rattle.expand.specs.Blocks.{stored, partsOf, wrapped, Replaced, Lifted, Stepped, Whole, Unmarked, Passed, usedBaseline, stepOf, gapZero, stepsAnswer, stepsPixels, frameAnswer};
 use layout::BinaryTables;
 use layout::EntryWidth;
 use layout::Image;
@@ -380,6 +380,185 @@ fn blocks(
     t
 }
 
+// A pixel after steps a and b, and the next entries.
+struct ReplacedPixel {
+    value: u32,
+    next: Cursors,
+}
+
+// A pixel after step c, and what it hands on.
+struct LiftedPixel {
+    value: u32,
+    under: Under,
+}
+
+// A pixel after the three steps, and all that it hands on.
+struct SteppedPixel {
+    value: u32,
+    taken: Taken,
+}
+
+// Underflow entry k, and 0 past the last. Each width is written at its call.
+fn under_entry(t: &[u8], e: EntryWidth, k: usize) -> u32
+    ensures { λ r. ⌜ r ≡ getD (wholeEntries (entryBytes e) (now (t .entry))) k 0 ⌝ }
+{
+    match e {
+        EntryWidth::One => table::entry(t, Width::One, k),
+        EntryWidth::Two => table::entry(t, Width::Two, k),
+    }
+}
+
+// Steps a and b of one stored byte.
+fn replace_pixel(b: u8, two: &[u8], four: &[u8], c: Cursors) -> ReplacedPixel
+    requires { ⌜ (c .two + 1 < 2 ^ 64) × (c .four + 1 < 2 ^ 64) ⌝ }
+    ensures { λ r. ⌜ Replaced 1 (stored (b ∷ []) [] (wholeEntries 2 (now (two .entry))) (wholeEntries 4 (now (four .entry)))) (r .value ∷ []) c (r .next) ⌝ }
+{
+    if b != 255 {
+        return ReplacedPixel {
+            value: b as u32,
+            next: c,
+        };
+    }
+    let v = table::entry(two, Width::Two, c.two);
+    if v != 65535 {
+        return ReplacedPixel {
+            value: v,
+            next: Cursors {
+                two: c.two + 1,
+                four: c.four,
+            },
+        };
+    }
+    let large = table::entry(four, Width::Four, c.four);
+    ReplacedPixel {
+        value: large,
+        next: Cursors {
+            two: c.two + 1,
+            four: c.four + 1,
+        },
+    }
+}
+
+// Step c of one pixel.
+fn lift_pixel(v: u32, under: &[u8], c: StepC, u: Under) -> LiftedPixel
+    requires { ⌜ u .next + 1 < 2 ^ 64 ⌝ }
+    ensures { λ r. ⌜ Lifted (c .applies) (c .baseline) (v ∷ []) (wholeEntries (entryBytes (c .width)) (now (under .entry))) (r .value ∷ []) u (r .under) ⌝ }
+{
+    if !c.applies {
+        return LiftedPixel { value: v, under: u };
+    }
+    if v == 0 {
+        let e = c.width;
+        let value = under_entry(under, e, u.next);
+        return LiftedPixel {
+            value,
+            under: Under {
+                next: u.next + 1,
+                over: u.over,
+            },
+        };
+    }
+    let over = past(u.over, v, c.baseline);
+    let value = std::num::wrapping_add_u32(v, c.baseline);
+    LiftedPixel {
+        value,
+        under: Under { next: u.next, over },
+    }
+}
+
+// The three steps of one stored byte.
+fn step_pixel(b: u8, two: &[u8], four: &[u8], under: &[u8], c: StepC, t: Taken) -> SteppedPixel
+    requires { ⌜ (t .two + 1 < 2 ^ 64) × (t .four + 1 < 2 ^ 64) × (t .under + 1 < 2 ^ 64) ⌝ }
+    ensures { λ r. ⌜ Stepped 1 (c .applies) (c .baseline) (stored (b ∷ []) (wholeEntries (entryBytes (c .width)) (now (under .entry))) (wholeEntries 2 (now (two .entry))) (wholeEntries 4 (now (four .entry)))) (r .value ∷ []) t (r .taken) ⌝ }
+{
+    let r = replace_pixel(
+        b,
+        two,
+        four,
+        Cursors {
+            two: t.two,
+            four: t.four,
+        },
+    );
+    let k = r.next;
+    let l = lift_pixel(
+        r.value,
+        under,
+        c,
+        Under {
+            next: t.under,
+            over: t.over,
+        },
+    );
+    let u = l.under;
+    SteppedPixel {
+        value: l.value,
+        taken: Taken {
+            two: k.two,
+            four: k.four,
+            under: u.next,
+            over: u.over,
+        },
+    }
+}
+
+// Whether a stored byte takes an entry: 255, and 0 where step c applies.
+fn is_mark(b: u8, applies: bool) -> bool
+    ensures { λ r. ⌜ (r ≡ false → Unmarked applies (b ∷ [])) ⌝ }
+{
+    if b == 255 {
+        return true;
+    }
+    if b == 0 {
+        return applies;
+    }
+    false
+}
+
+// Whether some byte takes an entry.
+fn any_mark(s: &[u8], applies: bool) -> bool
+    ensures { λ r. ⌜ (r ≡ false → Unmarked applies (now (s .entry))) ⌝ }
+{
+    if has_byte(s, 255) {
+        return true;
+    }
+    if !applies {
+        return false;
+    }
+    has_byte(s, 0)
+}
+
+// The first byte from p on that takes an entry, or end.
+fn first_mark(s: &[u8], p: usize, end: usize, applies: bool) -> usize
+    requires { ⌜ (p ≤ end) × (end ≤ length (now s)) ⌝ }
+    ensures { λ r. ⌜ Passed applies (now (s .entry)) p end r ⌝ }
+{
+    let mut q = p;
+    while q < end {
+        if is_mark(s[q], applies) {
+            return q;
+        }
+        q += 1;
+    }
+    q
+}
+
+// The same, 16 bytes at a time as long as none of them takes an entry.
+fn next_mark(s: &[u8], p: usize, end: usize, applies: bool) -> usize
+    requires { ⌜ (p ≤ end) × (end ≤ length (now s)) ⌝ }
+    ensures { λ r. ⌜ Passed applies (now (s .entry)) p end r ⌝ }
+{
+    let mut q = p;
+    while 16 <= end - q {
+        let e = q + 16;
+        if any_mark(&s[q..e], applies) {
+            break;
+        }
+        q = e;
+    }
+    first_mark(s, q, end, applies)
+}
+
 // Numbers that are bytes, each with base.
 fn lift_bytes(image: &[u8], base: u32, pixels: &mut [u32])
     requires { ⌜ length (now image) ≡ length (now pixels) ⌝ }
@@ -392,111 +571,23 @@ fn lift_bytes(image: &[u8], base: u32, pixels: &mut [u32])
     }
 }
 
-// Each number that is base, a 0 before it was lifted, takes the next underflow entry.
-fn fill_lifted(pixels: &mut [u32], base: u32, under: &[u8], e: EntryWidth, from: usize) -> usize
-    requires { ⌜ from + length (now pixels) < 2 ^ 64 ⌝ }
-    ensures { λ r. ⌜ r ≡ from + count base (now (pixels .entry)) ⌝ }
-    ensures { λ _. ⌜ now (pixels .exit) ≡ replace base (now (pixels .entry)) (drop from (wholeEntries (entryBytes e) (now (under .entry)))) ⌝ }
+// The baseline, or 0 where step c does not apply.
+fn used_baseline(c: StepC) -> u32
+    ensures { λ r. ⌜ r ≡ usedBaseline (c .applies) (c .baseline) ⌝ }
 {
-    match e {
-        EntryWidth::One => fill_marked(pixels, base, under, Width::One, from),
-        EntryWidth::Two => fill_marked(pixels, base, under, Width::Two, from),
-    }
+    if c.applies { c.baseline } else { 0 }
 }
 
-// Step c of a block where few zeros are expected: every number gains base, and then zeros take their entries.
-fn lift_few(pixels: &mut [u32], under: &[u8], c: StepC, u: Under) -> Under
-    requires { ⌜ u .next + length (now pixels) < 2 ^ 64 ⌝ }
-    ensures { λ r. ⌜ Lifted true (c .baseline) (now (pixels .entry)) (wholeEntries (entryBytes (c .width)) (now (under .entry))) (now (pixels .exit)) u r ⌝ }
+// Where a run that starts at p ends at the latest: near enough that its bytes are still in the cache when they are stored.
+fn run_end(p: usize, n: usize) -> usize
+    requires { ⌜ p ≤ n ⌝ }
+    ensures { λ r. ⌜ (p ≤ r) × (r ≤ n) ⌝ }
 {
-    let base = c.baseline;
-    let e = c.width;
-    let large = any_too_large(pixels, base);
-    let over = either(u.over, large);
-    lift(pixels, base);
-    if !has_mark(pixels, base) {
-        return Under { next: u.next, over };
-    }
-    let next = fill_lifted(pixels, base, under, e, u.next);
-    Under { next, over }
+    if 512 < n - p { p + 512 } else { n }
 }
 
-// Step c of a block of bytes, none of them 255.
-fn lift_few_bytes(image: &[u8], under: &[u8], c: StepC, pixels: &mut [u32], next: usize) -> usize
-    requires { ⌜ (length (now image) ≡ length (now pixels)) × (next + length (now pixels) < 2 ^ 64) ⌝ }
-    ensures { λ r. ⌜ r ≡ next + count 0 (now (image .entry)) ⌝ }
-    ensures { λ _. ⌜ now (pixels .exit) ≡ fillBy 0 (wrapped (c .baseline)) (now (image .entry)) (drop next (wholeEntries (entryBytes (c .width)) (now (under .entry)))) ⌝ }
-{
-    let base = c.baseline;
-    let e = c.width;
-    lift_bytes(image, base, pixels);
-    if has_byte(image, 0) {
-        fill_lifted(pixels, base, under, e, next)
-    } else {
-        next
-    }
-}
-
-// The three steps of a block of width 1, whatever its bytes.
-fn step_any(
-    image: &[u8],
-    two: &[u8],
-    four: &[u8],
-    under: &[u8],
-    c: StepC,
-    pixels: &mut [u32],
-    t: Taken,
-) -> Taken
-    requires { ⌜ (length (now image) ≡ length (now pixels)) × (t .two + length (now pixels) < 2 ^ 64) × (t .four + length (now pixels) < 2 ^ 64) × (t .under + length (now pixels) < 2 ^ 64) ⌝ }
-    ensures { λ r. ⌜ Stepped 1 true (c .baseline) (partsOf 1 (entryBytes (c .width)) (length (now (pixels .entry))) (now (image .entry)) (now (under .entry)) (now (two .entry)) (now (four .entry))) (now (pixels .exit)) t r ⌝ }
-{
-    table::load(image, Width::One, pixels);
-    let next_two = fill_marked(pixels, 255, two, Width::Two, t.two);
-    let next_four = fill_some(pixels, 65535, four, Width::Four, t.four);
-    let u = lift_few(
-        pixels,
-        under,
-        c,
-        Under {
-            next: t.under,
-            over: t.over,
-        },
-    );
-    Taken {
-        two: next_two,
-        four: next_four,
-        under: u.next,
-        over: u.over,
-    }
-}
-
-// The three steps of a block of width 1 where few zeros are expected. A byte and a baseline of two bytes have no sum that is too large.
-fn step_few(
-    image: &[u8],
-    two: &[u8],
-    four: &[u8],
-    under: &[u8],
-    c: StepC,
-    pixels: &mut [u32],
-    t: Taken,
-) -> Taken
-    requires { ⌜ (length (now image) ≡ length (now pixels)) × (c .baseline ≤ 65535) × (t .two + length (now pixels) < 2 ^ 64) × (t .four + length (now pixels) < 2 ^ 64) × (t .under + length (now pixels) < 2 ^ 64) ⌝ }
-    ensures { λ r. ⌜ Stepped 1 true (c .baseline) (partsOf 1 (entryBytes (c .width)) (length (now (pixels .entry))) (now (image .entry)) (now (under .entry)) (now (two .entry)) (now (four .entry))) (now (pixels .exit)) t r ⌝ }
-{
-    if has_byte(image, 255) {
-        return step_any(image, two, four, under, c, pixels, t);
-    }
-    let under = lift_few_bytes(image, under, c, pixels, t.under);
-    Taken {
-        two: t.two,
-        four: t.four,
-        under,
-        over: t.over,
-    }
-}
-
-// The three steps of all blocks of width 1 where few zeros are expected. Every block but the last has 64 pixels, so that its loops have a fixed length.
-fn few_blocks(
+// The three steps of all pixels of width 1 where few take an entry: runs of those that take none, and each other by itself.
+fn step_runs(
     image: &[u8],
     two: &[u8],
     four: &[u8],
@@ -504,9 +595,10 @@ fn few_blocks(
     c: StepC,
     pixels: &mut [u32],
 ) -> Taken
-    requires { ⌜ (length (now pixels) ≤ length (now image)) × (c .applies ≡ true) × (c .baseline ≤ 65535) ⌝ }
+    requires { ⌜ (length (now pixels) ≤ length (now image)) × (c .baseline ≤ 65535) ⌝ }
     ensures { λ r. ⌜ Whole 1 (c .applies) (c .baseline) (partsOf 1 (entryBytes (c .width)) (length (now (pixels .entry))) (now (image .entry)) (now (under .entry)) (now (two .entry)) (now (four .entry))) (now (pixels .exit)) r ⌝ }
 {
+    let base = used_baseline(c);
     let mut t = Taken {
         two: 0,
         four: 0,
@@ -515,28 +607,39 @@ fn few_blocks(
     };
     let n = pixels.len();
     let mut p = 0;
-    while 64 <= n - p {
-        let e = p + 64;
-        t = step_few(&image[p..e], two, four, under, c, &mut pixels[p..e], t);
-        p = e;
+    loop {
+        let end = run_end(p, n);
+        let q = next_mark(image, p, end, c.applies);
+        lift_bytes(&image[p..q], base, &mut pixels[p..q]);
+        if q == n {
+            break;
+        }
+        let x = step_pixel(image[q], two, four, under, c, t);
+        pixels[q] = x.value;
+        t = x.taken;
+        p = q + 1;
     }
-    step_any(&image[p..n], two, four, under, c, &mut pixels[p..n], t)
+    t
 }
 
-// Whether few zeros are expected of n pixels of width 1, by the count that is stated, and the baseline is of two bytes.
-fn expects_few(w: Width, c: StepC, n: usize) -> bool
-    ensures { λ r. ⌜ (r ≡ true → (w ≡ One) × (c .applies ≡ true) × (c .baseline ≤ 65535)) ⌝ }
+// Whether few of n pixels of width 1 take an entry, by the counts that are stated, and the baseline is of two bytes.
+fn expects_few(w: Width, c: StepC, two: usize, four: usize, n: usize) -> bool
+    ensures { λ r. ⌜ (r ≡ true → (w ≡ One) × (c .baseline ≤ 65535)) ⌝ }
 {
     let Width::One = w else {
         return false;
     };
-    if !c.applies {
-        return false;
-    }
     if 65535 < c.baseline {
         return false;
     }
-    c.count as usize <= n / 16
+    let few = n / 16;
+    if few < c.count as usize {
+        return false;
+    }
+    if few < two {
+        return false;
+    }
+    four <= few
 }
 
 // The three steps of all blocks, by the way that suits the frame.
@@ -552,8 +655,8 @@ fn all_blocks(
     requires { ⌜ length (now pixels) * widthBytes w ≤ length (now image) ⌝ }
     ensures { λ r. ⌜ Whole (widthBytes w) (c .applies) (c .baseline) (partsOf (widthBytes w) (entryBytes (c .width)) (length (now (pixels .entry))) (now (image .entry)) (now (under .entry)) (now (two .entry)) (now (four .entry))) (now (pixels .exit)) r ⌝ }
 {
-    if expects_few(w, c, pixels.len()) {
-        return few_blocks(image, two, four, under, c, pixels);
+    if expects_few(w, c, two.len() / 2, four.len() / 4, pixels.len()) {
+        return step_runs(image, two, four, under, c, pixels);
     }
     blocks(image, w, two, four, under, c, pixels)
 }

@@ -6,14 +6,14 @@ use Rattle.expand.proofs.all_blocks.Tie as tie
 expects-few-requires : tie.Need-expects-few-requires
 expects-few-requires c κs = search needs
 
-few-blocks-requires : tie.Need-few-blocks-requires
-few-blocks-requires c κs = let a = c .before .before .expects-few .ensures (c .before .if1 .taken) in let q = rw (a .0) at (c .before .before .before .before .before .before .before .before .pre) in (omega (arith, q), a .1, a .2)
+step-runs-requires : tie.Need-step-runs-requires
+step-runs-requires c κs = let a = c .before .before .expects-few .ensures (c .before .if1 .taken) in let q = rw (a .0) at (c .before .before .before .before .before .before .before .before .pre) in (omega (arith, q), a .1)
 
 same-length : tie.Need-same-length
 same-length c = search needs
 
 returns : tie.Need-returns
-returns c = rw (c .before .before .before .before .before .expects-few .ensures (c .before .before .before .before .if1 .taken) .0) (c .before .before .few-blocks .ensures)
+returns c = rw (c .before .before .before .before .before .expects-few .ensures (c .before .before .before .before .if1 .taken) .0) (c .before .before .step-runs .ensures)
 
 blocks-requires : tie.Need-blocks-requires
 blocks-requires c κs = search needs
@@ -29,7 +29,7 @@ all-blocks-spec =
     tie.close
     (tie.spec
     expects-few-requires
-    few-blocks-requires
+    step-runs-requires
     same-length
     returns
     blocks-requires
