@@ -1,14 +1,14 @@
 // Reading and writing tables, once over the width of an entry.
 ghost use mathlib.Core.Path.{_≡_};
-ghost use mathlib.Core.List.{_++_};
+ghost use mathlib.Core.List.{[], _∷_, _++_, map};
 ghost use Prim.Native.Nat.{_+_, _*_, _/_, _≤_};
 ghost use lib.ListN.{length, take, drop, getD, replicate};
 ghost use lib.Dec.{leb};
 ghost use Rattle.lists.specs.Choose.{if_then_else_};
-ghost use Rattle.lists.specs.Bytes.{little, littleBytes, zeros};
+ghost use Rattle.lists.specs.Bytes.{little, littleBytes, zeros, over};
 ghost use Rattle.layout.specs.Form.{widthBytes};
 ghost use Rattle.table.specs.Table.{entries, wholeEntries, allZero};
-ghost use Rattle.table.specs.Writing.{tableOf};
+ghost use Rattle.table.specs.Writing.{tableOf, lessWrapped};
 use layout::Width;
 
 // The number in the w bytes of t from `from` on, least significant first.
@@ -113,10 +113,25 @@ fn put_le(t: &mut [u8], w: usize, from: usize, v: u32)
     }
 }
 
-// The values as entries at the front of out, if it has room for them.
-pub fn store(values: &[u32], w: Width, out: &mut [u8]) -> bool
+// v as the one entry from byte `at` on, if t reaches to its end.
+pub fn put_entry(t: &mut [u8], w: Width, at: usize, v: u32)
+    ensures { λ _. ⌜ now (t .exit) ≡ if_then_else_ (leb (at + widthBytes w) (length (now (t .entry)))) (over at (tableOf (widthBytes w) (v ∷ [])) (now (t .entry))) (now (t .entry)) ⌝ }
+{
+    let each = layout::width_bytes(w);
+    let n = t.len();
+    if n < each {
+        return;
+    }
+    if n - each < at {
+        return;
+    }
+    put_le(t, each, at, v);
+}
+
+// The values, each less base and modulo 2^32, as entries at the front of out, if it has room for them.
+pub fn store_less(values: &[u32], base: u32, w: Width, out: &mut [u8]) -> bool
     ensures { λ r. ⌜ r ≡ leb (length (now (values .entry)) * widthBytes w) (length (now (out .entry))) ⌝ }
-    ensures { λ _. ⌜ now (out .exit) ≡ if_then_else_ (leb (length (now (values .entry)) * widthBytes w) (length (now (out .entry)))) (tableOf (widthBytes w) (now (values .entry)) ++ drop (length (now (values .entry)) * widthBytes w) (now (out .entry))) (now (out .entry)) ⌝ }
+    ensures { λ _. ⌜ now (out .exit) ≡ if_then_else_ (leb (length (now (values .entry)) * widthBytes w) (length (now (out .entry)))) (tableOf (widthBytes w) (map (lessWrapped base) (now (values .entry))) ++ drop (length (now (values .entry)) * widthBytes w) (now (out .entry))) (now (out .entry)) ⌝ }
 {
     let each = layout::width_bytes(w);
     if out.len() < values.len() * each {
@@ -125,11 +140,19 @@ pub fn store(values: &[u32], w: Width, out: &mut [u8]) -> bool
     let mut at = 0;
     let mut i = 0;
     while i < values.len() {
-        put_le(out, each, at, values[i]);
+        put_le(out, each, at, std::num::wrapping_sub_u32(values[i], base));
         at += each;
         i += 1;
     }
     true
+}
+
+// The values as entries at the front of out, if it has room for them.
+pub fn store(values: &[u32], w: Width, out: &mut [u8]) -> bool
+    ensures { λ r. ⌜ r ≡ leb (length (now (values .entry)) * widthBytes w) (length (now (out .entry))) ⌝ }
+    ensures { λ _. ⌜ now (out .exit) ≡ if_then_else_ (leb (length (now (values .entry)) * widthBytes w) (length (now (out .entry)))) (tableOf (widthBytes w) (now (values .entry)) ++ drop (length (now (values .entry)) * widthBytes w) (now (out .entry))) (now (out .entry)) ⌝ }
+{
+    store_less(values, 0, w, out)
 }
 
 // The byte in every place.
