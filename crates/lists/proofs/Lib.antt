@@ -7,3 +7,4 @@ pub mod Parts
 pub mod Same
 pub mod Over
 pub mod Chunks
+pub mod Halves

@@ -1,4 +1,3 @@
 pub mod Laws
-pub mod Halves
 pub mod Frame
 pub mod Facts

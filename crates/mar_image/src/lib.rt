@@ -2,9 +2,9 @@
 ghost use mathlib.Core.Path.{_≡_};
 ghost use Prim.Native.Nat.{_+_, _*_, _≤_};
 ghost use lib.ListN.{length, drop};
+ghost use Rattle.lists.specs.Parts.{withPart};
 ghost use Rattle.byte_order.specs.Numbers.{numbers};
 ghost use Rattle.marks.specs.Steps.{placing, placed};
-ghost use Rattle.mar_image.specs.Parts.{withPart};
 ghost use Rattle.mar_image.specs.Pairs.{pairEntry, pairAt, pairEntries};
 ghost use Rattle.mar_image.specs.MarImage.{checkedPairs, platePixels, answerBy, imageAnswer, imagePixels, marAnswer, marPixels};
 use byte_order::ByteOrder;

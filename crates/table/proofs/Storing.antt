@@ -1,16 +1,16 @@
 -- Laws of entries written as bytes, and the loops that write them.
 -- Assumes nothing.
 use mathlib.Core.Path.{_≡_, refl, sym, ap, _∙_}
-use mathlib.Core.List.{List, [], _∷_, _++_, append-assoc, append-nil}
+use mathlib.Core.List.{List, [], _∷_, _++_, append-assoc, append-nil, map}
 use Prim.Native.Nat.{ℕ, zero, suc, _+_, _*_, _-_, _/_, _%_, _≤_, _<_}
 use native.Mathlib.Nat.{add-zero, suc-mul, zero-mul}
 use native.Mathlib.Numerals.{add-one}
 use native.Mathlib.Omega.{arith}
 use lib.ListN.{length, take, drop, getD, set, length-append, length-set, take-append-drop, length-drop, length-take}
 use lib.Seq.{take-suc, take-all, drop-set-lt, take-suc-set, append-snoc, drop-drop, take-at, drop-at, length-take-le, take-length}
-use Rattle.lists.specs.Bytes.{littleBytes, zeros}
+use Rattle.lists.specs.Bytes.{littleBytes, zeros, over}
 use Rattle.layout.specs.Layout.{tableBytes}
-use Rattle.table.specs.Writing.{tableOf, paddedTable}
+use Rattle.table.specs.Writing.{tableOf, paddedTable, lessWrapped}
 
 pub length-littleBytes : (w v : ℕ) → length (littleBytes w v) ≡ w
 unfolding littleBytes
@@ -71,10 +71,10 @@ pub storing-start : (w : ℕ) (values out : List ℕ) → Storing w values out o
 unfolding tableOf
 storing-start w values out = record { upto = omega arith; at-is = sym (zero-mul w); same = refl; is = refl }
 
-pub storing-more : {w : ℕ} {values out₀ out out′ : List ℕ} {at i : ℕ} → Storing w values out₀ out at i → i < length values → at + w ≤ length out₀
-    → out′ ≡ take at out ++ (littleBytes w (getD values i 0) ++ drop (at + w) out) → Storing w values out₀ out′ (at + w) (i + 1)
+pub storing-more : {w : ℕ} {values out₀ out out′ : List ℕ} {at i : ℕ} (v : ℕ) → Storing w values out₀ out at i → i < length values → at + w ≤ length out₀ → v ≡ getD values i 0
+    → out′ ≡ take at out ++ (littleBytes w v ++ drop (at + w) out) → Storing w values out₀ out′ (at + w) (i + 1)
 unfolding tableOf
-storing-more {w} {values} {out₀} {out} {out′} {at} {i} f h room e =
+storing-more {w} {values} {out₀} {out} {out′} {at} {i} v f h room is e =
     let done : List ℕ = tableOf w (take i values) in
     let l : length done ≡ at = length-table w (take i values) ∙ rw (f .at-is) (ap (λ (n : ℕ). n * w) (length-take-le i values (omega arith))) in
     record {
@@ -84,10 +84,26 @@ storing-more {w} {values} {out₀} {out} {out′} {at} {i} f h room e =
       is =
           e
           ∙ rw
-          (f .is, take-at done (drop at out₀) at l, ← drop-drop w at (done ++ drop at out₀), drop-at done (drop at out₀) at l, drop-drop, add-one, take-suc values i 0 h, table-append, append-nil, append-assoc);
+          (is, f .is, take-at done (drop at out₀) at l, ← drop-drop w at (done ++ drop at out₀), drop-at done (drop at out₀) at l, drop-drop, add-one, take-suc values i 0 h, table-append, append-nil, append-assoc);
     }
 
 pub storing-done : {w : ℕ} {values out₀ out : List ℕ} {at i : ℕ} → Storing w values out₀ out at i → length values ≤ i → out ≡ tableOf w values ++ drop (length values * w) out₀
 storing-done {w} {values} {out₀} {out} {at} {i} f h =
     let e : i ≡ length values = omega (arith, f .upto) in
     f .is ∙ rw (f .at-is, e, take-length)
+
+-- one entry put over a table
+pub entry-over : (w at v : ℕ) (t : List ℕ) → take at t ++ (littleBytes w v ++ drop (at + w) t) ≡ over at (tableOf w (v ∷ [])) t
+unfolding tableOf over
+entry-over w at v t = rw (append-nil, length-littleBytes)
+
+-- wrapping subtraction, by its contract
+pub less-wrapped : (r base v : ℕ) → r < 4294967296 → base < 4294967296 → (r + base) % 4294967296 ≡ v → r ≡ lessWrapped base v
+less-wrapped r base v h k e = omega arith
+
+-- less 0, numbers of 32 bits are themselves
+pub less-none : (xs : List ℕ) → ((i : ℕ) → getD xs i 0 < 4294967296) → map (lessWrapped 0) xs ≡ xs
+less-none [] h = refl
+less-none (x ∷ xs) h =
+    let e : lessWrapped 0 x ≡ x = omega (arith, h 0) in
+    rw (less-none xs (λ i. h (suc i)), e)

@@ -1,14 +1,15 @@
 // Reading and writing tables, once over the width of an entry.
 ghost use mathlib.Core.Path.{_≡_};
-ghost use mathlib.Core.List.{_++_};
+ghost use mathlib.Core.List.{[], _∷_, _++_, map};
 ghost use Prim.Native.Nat.{_+_, _*_, _/_, _≤_};
 ghost use lib.ListN.{length, take, drop, getD, replicate};
 ghost use lib.Dec.{leb};
 ghost use Rattle.lists.specs.Choose.{if_then_else_};
-ghost use Rattle.lists.specs.Bytes.{little, littleBytes, zeros};
+ghost use Rattle.lists.specs.Bytes.{little, littleBytes, zeros, over};
+ghost use Rattle.lists.specs.Parts.{withPart};
 ghost use Rattle.layout.specs.Form.{widthBytes};
 ghost use Rattle.table.specs.Table.{entries, wholeEntries, allZero};
-ghost use Rattle.table.specs.Writing.{tableOf};
+ghost use Rattle.table.specs.Writing.{tableOf, lessWrapped};
 use layout::Width;
 
 // The number in the w bytes of t from `from` on, least significant first.
@@ -72,6 +73,46 @@ pub fn load(t: &[u8], w: Width, out: &mut [u32]) -> bool
     true
 }
 
+// Entries p to e of t, into their places.
+fn load_part(t: &[u8], w: Width, p: usize, e: usize, out: &mut [u32])
+    requires { ⌜ (p ≤ e) × (e ≤ length (now out)) × (length (now out) * widthBytes w ≤ length (now t)) ⌝ }
+    ensures { λ _. ⌜ now (out .exit) ≡ withPart p e (entries (widthBytes w) (length (now (out .entry))) (now (t .entry))) (now (out .entry)) ⌝ }
+{
+    let at = p * layout::width_bytes(w);
+    load(&t[at..], w, &mut out[p..e]);
+}
+
+// The two halves side by side, 256 entries of each in turn.
+fn load_both(t: &[u8], w: Width, out: &mut [u32])
+    requires { ⌜ length (now out) * widthBytes w ≤ length (now t) ⌝ }
+    ensures { λ _. ⌜ now (out .exit) ≡ entries (widthBytes w) (length (now (out .entry))) (now (t .entry)) ⌝ }
+{
+    let n = out.len();
+    let half = n / 2;
+    let mut p = 0;
+    while p + 256 <= half {
+        let e = p + 256;
+        load_part(t, w, p, e, out);
+        load_part(t, w, half + p, half + e, out);
+        p = e;
+    }
+    load_part(t, w, p, half, out);
+    load_part(t, w, half + p, n, out);
+}
+
+// What load does, in two streams: for many entries, memory is faster so than in one.
+pub fn load_halves(t: &[u8], w: Width, out: &mut [u32]) -> bool
+    ensures { λ r. ⌜ r ≡ leb (length (now (out .entry)) * widthBytes w) (length (now (t .entry))) ⌝ }
+    ensures { λ _. ⌜ now (out .exit) ≡ if_then_else_ (leb (length (now (out .entry)) * widthBytes w) (length (now (t .entry)))) (entries (widthBytes w) (length (now (out .entry))) (now (t .entry))) (now (out .entry)) ⌝ }
+{
+    let end = out.len() * layout::width_bytes(w);
+    if t.len() < end {
+        return false;
+    }
+    load_both(t, w, out);
+    true
+}
+
 // Every byte is 0. No early exit, so that the loop is made of vector instructions.
 pub fn all_zero(t: &[u8]) -> bool
     ensures { λ r. ⌜ r ≡ allZero (now (t .entry)) ⌝ }
@@ -113,10 +154,25 @@ fn put_le(t: &mut [u8], w: usize, from: usize, v: u32)
     }
 }
 
-// The values as entries at the front of out, if it has room for them.
-pub fn store(values: &[u32], w: Width, out: &mut [u8]) -> bool
+// v as the one entry from byte `at` on, if t reaches to its end.
+pub fn put_entry(t: &mut [u8], w: Width, at: usize, v: u32)
+    ensures { λ _. ⌜ now (t .exit) ≡ if_then_else_ (leb (at + widthBytes w) (length (now (t .entry)))) (over at (tableOf (widthBytes w) (v ∷ [])) (now (t .entry))) (now (t .entry)) ⌝ }
+{
+    let each = layout::width_bytes(w);
+    let n = t.len();
+    if n < each {
+        return;
+    }
+    if n - each < at {
+        return;
+    }
+    put_le(t, each, at, v);
+}
+
+// The values, each less base and modulo 2^32, as entries at the front of out, if it has room for them.
+pub fn store_less(values: &[u32], base: u32, w: Width, out: &mut [u8]) -> bool
     ensures { λ r. ⌜ r ≡ leb (length (now (values .entry)) * widthBytes w) (length (now (out .entry))) ⌝ }
-    ensures { λ _. ⌜ now (out .exit) ≡ if_then_else_ (leb (length (now (values .entry)) * widthBytes w) (length (now (out .entry)))) (tableOf (widthBytes w) (now (values .entry)) ++ drop (length (now (values .entry)) * widthBytes w) (now (out .entry))) (now (out .entry)) ⌝ }
+    ensures { λ _. ⌜ now (out .exit) ≡ if_then_else_ (leb (length (now (values .entry)) * widthBytes w) (length (now (out .entry)))) (tableOf (widthBytes w) (map (lessWrapped base) (now (values .entry))) ++ drop (length (now (values .entry)) * widthBytes w) (now (out .entry))) (now (out .entry)) ⌝ }
 {
     let each = layout::width_bytes(w);
     if out.len() < values.len() * each {
@@ -125,11 +181,19 @@ pub fn store(values: &[u32], w: Width, out: &mut [u8]) -> bool
     let mut at = 0;
     let mut i = 0;
     while i < values.len() {
-        put_le(out, each, at, values[i]);
+        put_le(out, each, at, std::num::wrapping_sub_u32(values[i], base));
         at += each;
         i += 1;
     }
     true
+}
+
+// The values as entries at the front of out, if it has room for them.
+pub fn store(values: &[u32], w: Width, out: &mut [u8]) -> bool
+    ensures { λ r. ⌜ r ≡ leb (length (now (values .entry)) * widthBytes w) (length (now (out .entry))) ⌝ }
+    ensures { λ _. ⌜ now (out .exit) ≡ if_then_else_ (leb (length (now (values .entry)) * widthBytes w) (length (now (out .entry)))) (tableOf (widthBytes w) (now (values .entry)) ++ drop (length (now (values .entry)) * widthBytes w) (now (out .entry))) (now (out .entry)) ⌝ }
+{
+    store_less(values, 0, w, out)
 }
 
 // The byte in every place.

@@ -3,7 +3,8 @@ use Prim.Native.Nat.{_-_}
 use native.Mathlib.Omega.{arith}
 use lib.ListN.{length}
 use Rattle.byte_order.specs.Numbers.{numbers}
-use Rattle.mar_image.proofs.Halves.{Halves, halves-start, loaded-more, loaded-end}
+use Rattle.lists.proofs.Halves.{Halves, halves-start, written-more, written-end}
+use Rattle.byte_order.proofs.Laws.{length-numbers}
 use Rattle.mar_image.proofs.load_image.Statement.{statement}
 use Rattle.mar_image.proofs.load_image.Tie as tie
 
@@ -41,7 +42,7 @@ loop-again : tie.Need-loop-again Inv-loop μ-loop
 loop-again c =
     let s = c .before .before .before .before .before .before .before .before .before .before .before .before in
     let l = c .before .before .before .before .before .before .before .before .before .loop in
-    loaded-more (s .args .order) (s .args .image .now) (s .args .pixels .now) (l .pixels) _ _ _ (l .p) _ _ (l .inv) (omega arith) (omega arith) (omega arith) (omega arith) (c .before .before .before .before .before .before .load-part .ensures) (c .before .before .load-part2 .ensures) (omega arith)
+    written-more (λ n. numbers (s .args .order) 2 n (s .args .image .now)) (s .args .pixels .now) (l .pixels) _ _ _ (l .p) _ _ (length-numbers _ _ _ _) (l .inv) (omega arith) (omega arith) (omega arith) (omega arith) (c .before .before .before .before .before .before .load-part .ensures) (c .before .before .load-part2 .ensures) (omega arith)
 
 load-part-requires-3 : tie.Need-load-part-requires-3 Inv-loop μ-loop
 load-part-requires-3 c κs = omega arith
@@ -59,7 +60,7 @@ returns : tie.Need-returns Inv-loop μ-loop
 returns c =
     let s = c .before .before .before .before .before .before .before .before .before .before .before .before in
     let l = c .before .before .before .before .before .before .before .before .before .loop in
-    loaded-end (s .args .order) (s .args .image .now) (s .args .pixels .now) (l .pixels) _ _ _ (l .p) _ _ (l .inv) (l .inv .upto) (omega arith) (omega arith) (omega arith) (c .before .before .before .before .before .before .load-part3 .ensures) (c .before .before .load-part4 .ensures) refl refl
+    written-end (λ n. numbers (s .args .order) 2 n (s .args .image .now)) (s .args .pixels .now) (l .pixels) _ _ _ (l .p) _ _ (length-numbers _ _ _ _) (l .inv) (l .inv .upto) (omega arith) (omega arith) (omega arith) (c .before .before .before .before .before .before .load-part3 .ensures) (c .before .before .load-part4 .ensures) refl refl
 
 pub load-image-spec : {M : Type 1} → statement M
 load-image-spec =

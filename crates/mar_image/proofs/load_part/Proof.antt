@@ -1,5 +1,7 @@
 use borrow.Author.Needs.{needs}
-use Rattle.mar_image.proofs.Halves.{part-loaded}
+use Rattle.lists.proofs.Halves.{part-loaded}
+use Rattle.byte_order.specs.Numbers.{numbers}
+use Rattle.byte_order.proofs.Laws.{numbers-part}
 use Rattle.mar_image.proofs.load_part.Statement.{statement}
 use Rattle.mar_image.proofs.load_part.Tie as tie
 
@@ -36,7 +38,7 @@ same-length c = search needs
 returns : tie.Need-returns
 returns c =
     let s = c .before .before .before .before .before .before .before in
-    part-loaded (s .args .order) (s .args .image .now) (s .args .pixels .now) _ (s .args .p) (s .args .e) (s .pre .0) (s .pre .1) (s .pre .2) (c .before .before .load16 .ensures .1)
+    part-loaded (numbers (s .args .order) 2) 2 (numbers-part (s .args .order) 2) (s .args .image .now) (s .args .pixels .now) _ (s .args .p) (s .args .e) (s .pre .0) (s .pre .1) (s .pre .2) (c .before .before .load16 .ensures .1)
 
 pub load-part-spec : {M : Type 1} → statement M
 load-part-spec =

@@ -1,20 +1,24 @@
--- The stored image loaded in parts, its two halves side by side.
+-- A list written over another in parts, its two halves side by side.
 -- Assumes nothing.
 use mathlib.Core.Path.{_≡_, refl, sym, ap, _∙_}
 use mathlib.Core.Bool.{Bool, true, false}
 use mathlib.Core.List.{List, _++_}
 use Prim.Native.Nat.{ℕ, _+_, _-_, _*_, _≤_, _<_}
+use native.Mathlib.Nat.{add-mul, mul-le-mul-right, le-trans}
 use native.Mathlib.Omega.{arith}
 use borrow.Rule.Slice.PartMut.{putMid, post-is}
 use lib.ListN.{length, getD, take, drop, length-append, length-drop, List·getD-append}
 use lib.Seq.{getD-append-add, getD-take, getD-drop, length-take-le, take-all, ext-getD}
 use lib.Dec.{leb, ltb}
 use borrow.Author.Tests.{le-leb, ltb-true, ltb-false}
 use Rattle.lists.specs.Choose.{if_then_else_}
-use Rattle.byte_order.specs.declared.ByteOrder.{ByteOrder}
-use Rattle.byte_order.specs.Numbers.{numbers}
-use Rattle.byte_order.proofs.Laws.{length-numbers, numbers-part}
-use Rattle.mar_image.specs.Parts.{withPart}
+use Rattle.lists.specs.Parts.{withPart}
+
+-- where n numbers of w bytes fit, so do those from p to e, behind the ones before them
+pub part-fits : (w p e n m : ℕ) → p ≤ e → e ≤ n → n * w ≤ m → p * w + (e - p) * w ≤ m
+part-fits w p e n m h k l =
+    let s : p + (e - p) ≡ e = omega arith in
+    rw (← add-mul, s) (le-trans (mul-le-mul-right w k) l)
 
 past : (xs ys : List ℕ) (j n : ℕ) → length xs ≡ n → n ≤ j → getD (xs ++ ys) j 0 ≡ getD ys (j - n) 0
 past xs ys j n e h =
@@ -122,32 +126,33 @@ module _ (half p e f : ℕ) (vs px₀ px : List ℕ) (s : Halves half vs px₀ p
           go true y = low-both j (ltb-true _ _ y)
           go false y = high-both j (omega (arith, ltb-false j e y)) (omega (arith, same-both))
 
--- the loading of a part
-pub part-loaded : (o : ByteOrder) (image px ys : List ℕ) (p e : ℕ) → p ≤ e → e ≤ length px → length px * 2 ≤ length image
-    → ys ≡ if_then_else_ (leb (length (take (e - p) (drop p px)) * 2) (length (take (length image - p * 2) (drop (p * 2) image)))) (numbers o 2 (length (take (e - p) (drop p px))) (take (length image - p * 2) (drop (p * 2) image))) (take (e - p) (drop p px))
-    → putMid p (e - p) px ys ≡ withPart p e (numbers o 2 (length px) image) px
-unfolding withPart
-part-loaded o image px ys p e h k l q =
-    let n : length (take (e - p) (drop p px)) ≡ e - p = length-take-le (e - p) (drop p px) (rw length-drop (omega arith)) in
-    let r : take (length image - p * 2) (drop (p * 2) image) ≡ drop (p * 2) image = take-all (length image - p * 2) (drop (p * 2) image) (rw length-drop (omega arith)) in
-    let y : ys ≡ take (e - p) (drop p (numbers o 2 (length px) image)) =
-    q ∙ rw (n, r, le-leb ((e - p) * 2) (length (drop (p * 2) image)) (rw length-drop (omega arith))) (sym (numbers-part o 2 (length px) p (e - p) image (omega arith))) in
-    rw (y, post-is p e px h)
-
--- two parts loaded one after the other
-module _ (o : ByteOrder) (image px₀ px px₁ px₂ : List ℕ) (half p e f : ℕ) (s : Halves half (numbers o 2 (length px₀) image) px₀ px p) (h : p ≤ e) (k : e ≤ half) (m : half + e ≤ f) (n : f ≤ length px₀)
-    (a : px₁ ≡ withPart p e (numbers o 2 (length px) image) px) (b : px₂ ≡ withPart (half + p) f (numbers o 2 (length px₁) image) px₁) where
-  loaded-one : px₁ ≡ withPart p e (numbers o 2 (length px₀) image) px
-  loaded-one = a ∙ rw (s .same)
+-- two parts written one after the other, of a list that may be named by the length of what it is written over
+module _ (vs : ℕ → List ℕ) (px₀ px px₁ px₂ : List ℕ) (half p e f : ℕ) (l : length (vs (length px₀)) ≡ length px₀) (s : Halves half (vs (length px₀)) px₀ px p) (h : p ≤ e) (k : e ≤ half) (m : half + e ≤ f) (n : f ≤ length px₀)
+    (a : px₁ ≡ withPart p e (vs (length px)) px) (b : px₂ ≡ withPart (half + p) f (vs (length px₁)) px₁) where
+  written-one : px₁ ≡ withPart p e (vs (length px₀)) px
+  written-one = a ∙ rw (s .same)
 
   same-one : length px₁ ≡ length px₀
-  same-one = ap length loaded-one ∙ part-length p e (numbers o 2 (length px₀) image) px h (omega (arith, s .same)) (length-numbers o 2 (length px₀) image ∙ sym (s .same)) ∙ s .same
+  same-one = ap length written-one ∙ part-length p e (vs (length px₀)) px h (omega (arith, s .same)) (l ∙ sym (s .same)) ∙ s .same
 
-  loaded-both : px₂ ≡ withPart (half + p) f (numbers o 2 (length px₀) image) (withPart p e (numbers o 2 (length px₀) image) px)
-  loaded-both = b ∙ rw (same-one, loaded-one)
+  written-both : px₂ ≡ withPart (half + p) f (vs (length px₀)) (withPart p e (vs (length px₀)) px)
+  written-both = b ∙ rw (same-one, written-one)
 
-  pub loaded-more : f ≡ half + e → Halves half (numbers o 2 (length px₀) image) px₀ px₂ e
-  loaded-more q = rw loaded-both (halves-more half p e f (numbers o 2 (length px₀) image) px₀ px s (length-numbers o 2 (length px₀) image) h k m n q)
+  pub written-more : f ≡ half + e → Halves half (vs (length px₀)) px₀ px₂ e
+  written-more q = rw written-both (halves-more half p e f (vs (length px₀)) px₀ px s l h k m n q)
 
-  pub loaded-end : e ≡ half → f ≡ length px₀ → px₂ ≡ numbers o 2 (length px₀) image
-  loaded-end q r = loaded-both ∙ halves-end half p e f (numbers o 2 (length px₀) image) px₀ px s (length-numbers o 2 (length px₀) image) h k m n q r
+  pub written-end : e ≡ half → f ≡ length px₀ → px₂ ≡ vs (length px₀)
+  written-end q r = written-both ∙ halves-end half p e f (vs (length px₀)) px₀ px s l h k m n q r
+
+-- a part loaded, from the bytes behind those of the numbers before it
+module _ (read : ℕ → List ℕ → List ℕ) (w : ℕ) (read-part : (n p s : ℕ) (t : List ℕ) → p + s ≤ n → take s (drop p (read n t)) ≡ read s (drop (p * w) t)) where
+  pub part-loaded : (t px ys : List ℕ) (p e : ℕ) → p ≤ e → e ≤ length px → length px * w ≤ length t
+      → ys ≡ if_then_else_ (leb (length (take (e - p) (drop p px)) * w) (length (take (length t - p * w) (drop (p * w) t)))) (read (length (take (e - p) (drop p px))) (take (length t - p * w) (drop (p * w) t))) (take (e - p) (drop p px))
+      → putMid p (e - p) px ys ≡ withPart p e (read (length px) t) px
+  unfolding withPart
+  part-loaded t px ys p e h k l q =
+      let n : length (take (e - p) (drop p px)) ≡ e - p = length-take-le (e - p) (drop p px) (rw length-drop (omega arith)) in
+      let r : take (length t - p * w) (drop (p * w) t) ≡ drop (p * w) t = take-all (length t - p * w) (drop (p * w) t) (rw length-drop (omega arith)) in
+      let b : (e - p) * w ≤ length (drop (p * w) t) = rw length-drop (omega (arith, part-fits w p e (length px) (length t) h k l)) in
+      let y : ys ≡ take (e - p) (drop p (read (length px) t)) = q ∙ rw (n, r, le-leb ((e - p) * w) (length (drop (p * w) t)) b) (sym (read-part (length px) p (e - p) t (omega arith))) in
+      rw (y, post-is p e px h)
