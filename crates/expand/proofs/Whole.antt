@@ -15,7 +15,7 @@ use Rattle.lists.specs.Choose.{if_then_else_}
 use Rattle.table.specs.Table.{entries}
 use Rattle.table.proofs.Laws.{entries-bytes, entries-part}
 use Rattle.expand.specs.Steps.{Stored, fillBy, replace, count, anyTooLarge, appliesA, appliesB, afterA, afterB, afterC, exhausted}
-use Rattle.expand.specs.Blocks.{stored, restOf, wrapped, Replaced, Lifted, Stepped, Whole}
+use Rattle.expand.specs.Blocks.{stored, restOf, wrapped, untaken, Replaced, Lifted, Stepped, Whole}
 use Rattle.expand.specs.declared.Cursors.{Cursors}
 use Rattle.expand.specs.declared.Under.{Under}
 use Rattle.expand.specs.declared.Taken.{Taken}
@@ -127,6 +127,10 @@ whole-start w step base eu e2 e4 =
       over-is = rw B (sym (large-nil step base));
       is = rw B (sym (fill-nil step 0 (wrapped base) eu));
     }
+
+-- width 4 where step c does not apply: no step does
+pub whole-plain : (base : ℕ) (s : Stored) (px : List ℕ) → px ≡ s .image → Whole 4 false base s px untaken
+whole-plain base s px e = record { two-is = refl; four-is = refl; under-is = refl; over-is = refl; is = e }
 
 -- no step takes more entries than there are values
 pub record Low (n : ℕ) (px : List ℕ) (t : Taken) : Type 0 where

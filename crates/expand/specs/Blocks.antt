@@ -72,6 +72,10 @@ pub record Whole (w : ℕ) (step : Bool) (base : ℕ) (s : Stored) (px : List �
   pub over-is : t .over ≡ sumsTooLarge w step base s
   pub is : px ≡ wrapIf step base (afterB w s) (s .under)
 
+-- no entry taken, and no sum too large
+abbrev pub untaken : Taken
+untaken = record { two = 0; four = 0; under = 0; over = false }
+
 -- None of the stored bytes xs takes an entry: no 255, and no 0 where step c applies.
 pub record Unmarked (step : Bool) (xs : List ℕ) : Type 0 where
   pub no-255 : count 255 xs ≡ 0

@@ -8,13 +8,13 @@ ghost use lib.Dec.{eqb, ltb};
 ghost use Rattle.lists.specs.Choose.{if_then_else_};
 ghost use Rattle.layout.specs.Form.{widthBytes, entryBytes};
 ghost use Rattle.layout.specs.Layout.{pixelCount, binaryEnd};
-ghost use Rattle.layout.specs.declared.Width.the-variants.{One};
+ghost use Rattle.layout.specs.declared.Width.the-variants.{One, Four};
 ghost use Rattle.table.specs.Table.{wholeEntries, entries};
 ghost use Rattle.expand.specs.Steps.{fillBy, replace, count, sumTooLarge, anyTooLarge};
 ghost use Rattle.expand.specs.Expand.{binaryAnswer, binaryPixels, firstPixels, partsWhole};
 ghost use Rattle.expand.specs.Places.{extentOf, placesOf};
 ghost use Rattle.expand.specs.declared.PartsAnswer.the-variants.{Missing, At};
-ghost use Rattle.expand.specs.Blocks.{stored, partsOf, wrapped, Replaced, Lifted, Stepped, Whole, Unmarked, Passed, usedBaseline, stepOf, gapZero, stepsAnswer, stepsPixels, frameAnswer};
+ghost use Rattle.expand.specs.Blocks.{stored, partsOf, wrapped, Replaced, Lifted, Stepped, Whole, Unmarked, Passed, usedBaseline, untaken, stepOf, gapZero, stepsAnswer, stepsPixels, frameAnswer};
 use layout::BinaryTables;
 use layout::EntryWidth;
 use layout::Image;
@@ -288,7 +288,7 @@ fn lift_block(pixels: &mut [u32], under: &[u8], c: StepC, u: Under) -> Under
     }
 }
 
-// How many pixels are a block: few in width 1, where most blocks then need no table; many in width 4, which is copied.
+// How many pixels are a block: few in width 1, where most blocks then need no table; many in width 4, which has no tables but the underflows.
 fn block_size(w: Width) -> usize
     ensures { λ r. ⌜ 1 ≤ r ⌝ }
 {
@@ -642,6 +642,31 @@ fn expects_few(w: Width, c: StepC, two: usize, four: usize, n: usize) -> bool
     four <= few
 }
 
+// Width 4 where step c does not apply: the stored values are the pixels, and no table has an entry.
+fn is_plain(w: Width, c: StepC) -> bool
+    ensures { λ r. ⌜ (r ≡ true → (w ≡ Four) × (c .applies ≡ false)) ⌝ }
+{
+    let Width::Four = w else {
+        return false;
+    };
+    !c.applies
+}
+
+// The stored values of width 4 as the pixels.
+fn load_plain(image: &[u8], pixels: &mut [u32]) -> Taken
+    requires { ⌜ length (now pixels) * 4 ≤ length (now image) ⌝ }
+    ensures { λ r. ⌜ r ≡ untaken ⌝ }
+    ensures { λ _. ⌜ now (pixels .exit) ≡ entries 4 (length (now (pixels .entry))) (now (image .entry)) ⌝ }
+{
+    table::load_halves(image, Width::Four, pixels);
+    Taken {
+        two: 0,
+        four: 0,
+        under: 0,
+        over: false,
+    }
+}
+
 // The three steps of all blocks, by the way that suits the frame.
 fn all_blocks(
     image: &[u8],
@@ -657,6 +682,9 @@ fn all_blocks(
 {
     if expects_few(w, c, two.len() / 2, four.len() / 4, pixels.len()) {
         return step_runs(image, two, four, under, c, pixels);
+    }
+    if is_plain(w, c) {
+        return load_plain(image, pixels);
     }
     blocks(image, w, two, four, under, c, pixels)
 }
