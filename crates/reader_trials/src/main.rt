@@ -227,11 +227,11 @@ fn read_into(frame: &[u8], pixels: &mut [u32]) {
     word(b" ]\n");
 }
 
-// The array has as many places as the row says, at most 16.
+// The array has as many places as the row says, at most 640.
 fn places(n: usize) -> usize
-    ensures { λ r. ⌜ r ≤ 16 ⌝ }
+    ensures { λ r. ⌜ r ≤ 640 ⌝ }
 {
-    if n <= 16 { n } else { 16 }
+    if n <= 640 { n } else { 640 }
 }
 
 // The bytes of the seventh cell, if there is one.
@@ -251,7 +251,7 @@ fn run(row: &[u8]) {
     put_plain(&mut buffer);
     let body = put_lines(&mut buffer, row);
     let length = put_rest(&mut buffer, row, body);
-    let mut pixels = [9u32; 16];
+    let mut pixels = [9u32; 640];
     let first = find(row, 0, b'|');
     let n = places(value(&row[..first]));
     read_into(&buffer[..length], &mut pixels[..n]);

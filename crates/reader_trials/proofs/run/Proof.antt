@@ -51,7 +51,7 @@ array-borrow-prefix-pixels : tie.Need-array-borrow-prefix-pixels
 array-borrow-prefix-pixels c = search needs
 
 slice-aggregate-read-into-2 : tie.Need-slice-aggregate-read-into-2
-slice-aggregate-read-into-2 c = sym (length-take-le (c .before .before .places .result) (replicate {A = ℕ} 16 9) (omega (arith, c .before .before .places .ensures, length-replicate {A = ℕ} 16 9)))
+slice-aggregate-read-into-2 c = sym (length-take-le (c .before .before .places .result) (replicate {A = ℕ} 640 9) (omega (arith, c .before .before .places .ensures, length-replicate {A = ℕ} 640 9)))
 
 read-into-requires : tie.Need-read-into-requires
 read-into-requires c κs = search needs
