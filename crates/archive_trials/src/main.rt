@@ -1,7 +1,7 @@
 // Lists of calls on a held frame and its ledger, from standard input, one list to a row with | between: the pixel width, the
 // underflow width, the baseline, rows, columns, bytes of room behind the frame, lines that the ledger holds, a seed, the number of
 // calls and the pixels (made from the seed where there are none). Each row's frame is written and opened, the calls are made, and
-// after each one the answer, the number of lines, the held bytes and the ledger's bytes are compared with those of the plain book.
+// after each one the answer, the number of lines, the held bytes and the ledger's bytes are compared with those of the plain model.
 // A row may go on: pixel 0 is corrected to 7, then h or l (held or ledger), a place and the text put there, the refusal that a
 // withdrawal must give, a pixel and the refusal that its correction must give. A row that starts with # is a heading.
 use archive::OpenAnswer;
@@ -31,16 +31,16 @@ struct Call {
     pub date: Date,
 }
 
-// The book's lines and the entries on its pile.
-struct Book {
+// The model's lines and the entries on its stack.
+struct Model {
     pub lines: usize,
     pub top: usize,
 }
 
-// What a call answers, 0 for yes, and the book behind it.
+// What a call answers, 0 for yes, and the model behind it.
 struct Expected {
     pub number: u32,
-    pub book: Book,
+    pub model: Model,
 }
 
 // What a call answered, and the lines that it gave back.
@@ -59,7 +59,7 @@ struct Setting {
 
 // How far a list went: the calls made, and whether all agreed.
 struct Played {
-    pub book: Book,
+    pub model: Model,
     pub calls: usize,
     pub good: bool,
 }
@@ -285,7 +285,7 @@ fn some_date(k: u32) -> Date {
     }
 }
 
-// The book's calendar.
+// The model's calendar.
 fn is_real(d: Date) -> bool {
     if d.year < 1 || 4095 < d.year || d.day < 1 {
         return false;
@@ -396,22 +396,22 @@ fn make(c: Call, held: &mut [u8], ledger: &mut [u8], lines: u64) -> Given {
     }
 }
 
-fn refused(number: u32, book: Book) -> Expected {
-    Expected { number, book }
+fn refused(number: u32, model: Model) -> Expected {
+    Expected { number, model }
 }
 
 fn accepted(lines: usize, top: usize) -> Expected {
     Expected {
         number: 0,
-        book: Book {
+        model: Model {
             lines: up(lines),
             top,
         },
     }
 }
 
-fn is_full(ledger: &[u8], book: Book) -> bool {
-    ledger.len() / 16 <= book.lines
+fn is_full(ledger: &[u8], model: Model) -> bool {
+    ledger.len() / 16 <= model.lines
 }
 
 // A number in the eight bytes from a place on, most significant first.
@@ -426,7 +426,7 @@ fn put_word(ledger: &mut [u8], from: usize, v: u64) {
     }
 }
 
-// The book's line: its kind and date in the first number, and the pixel with both counts.
+// The model's line: its kind and date in the first number, and the pixel with both counts.
 fn put_line(ledger: &mut [u8], lines: usize, head: u64, pixel: u32, old: u32, new: u32) {
     let at = least(lines, 4096) * 16;
     let middle = (pixel % 16777216) as u64 * 131072 + (old / 32768) as u64;
@@ -435,15 +435,15 @@ fn put_line(ledger: &mut [u8], lines: usize, head: u64, pixel: u32, old: u32, ne
     put_word(ledger, at + 8, low);
 }
 
-// An entry goes on the pile, which lies behind the 28 numbers of answers: a pixel and its count, or 4294967295 and a date.
-fn push(pile: &mut [u32], top: usize, place: u32, v: u32) {
-    let at = pile_place(top);
-    set(pile, at, place);
-    set(pile, at + 1, v);
+// An entry goes on the stack, which lies behind the 28 numbers of answers: a pixel and its count, or 4294967295 and a date.
+fn push(stack: &mut [u32], top: usize, place: u32, v: u32) {
+    let at = stack_place(top);
+    set(stack, at, place);
+    set(stack, at + 1, v);
 }
 
-// Where an entry of the pile stands.
-fn pile_place(k: usize) -> usize
+// Where an entry of the stack stands.
+fn stack_place(k: usize) -> usize
     ensures { λ r. ⌜ r ≤ 200028 ⌝ }
 {
     least(k, 100000) * 2 + 28
@@ -458,15 +458,15 @@ fn copy_pixels(to: &mut [u32], from: &[u32]) {
     }
 }
 
-// Makes the pile's corrections, oldest first.
-fn correct_all(pixels: &mut [u32], pile: &[u32], top: usize) {
+// Makes the stack's corrections, oldest first.
+fn correct_all(pixels: &mut [u32], stack: &[u32], top: usize) {
     let end = least(top, 100000);
     let mut i = 0;
     while i < end {
         set(
             pixels,
-            at_place(pile, pile_place(i)) as usize,
-            at_place(pile, pile_place(i) + 1),
+            at_place(stack, stack_place(i)) as usize,
+            at_place(stack, stack_place(i) + 1),
         );
         i += 1;
     }
@@ -479,7 +479,7 @@ fn write_number(answer: WriteAnswer) -> u32 {
     }
 }
 
-// The book's correction. The writer refuses before it writes, so the book's frame is then as it was.
+// The model's correction. The writer refuses before it writes, so the model's frame is then as it was.
 fn expect_correction(
     c: Call,
     frame: &[u8],
@@ -487,97 +487,97 @@ fn expect_correction(
     asked: AskedForm,
     held: &mut [u8],
     ledger: &mut [u8],
-    pile: &mut [u32],
-    book: Book,
+    stack: &mut [u32],
+    model: Model,
 ) -> Expected {
     if opened.len() as u64 <= full_pixel(c) {
-        return refused(24, book);
+        return refused(24, model);
     }
-    if is_full(ledger, book) {
-        return refused(21, book);
+    if is_full(ledger, model) {
+        return refused(21, model);
     }
     let mut pixels = [0u32; 24];
     copy_pixels(&mut pixels, opened);
-    correct_all(&mut pixels, pile, book.top);
+    correct_all(&mut pixels, stack, model.top);
     let old = at_place(&pixels, c.pixel as usize);
     set(&mut pixels, c.pixel as usize, c.count);
     let n = least(opened.len(), 24);
     let number = write_number(writer::write(frame, &pixels[0..n], asked, held));
     if number != 0 {
-        return refused(number, book);
+        return refused(number, model);
     }
-    put_line(ledger, book.lines, 0, c.pixel, old, c.count);
-    push(pile, book.top, c.pixel, c.count);
-    accepted(book.lines, up(book.top))
+    put_line(ledger, model.lines, 0, c.pixel, old, c.count);
+    push(stack, model.top, c.pixel, c.count);
+    accepted(model.lines, up(model.top))
 }
 
-fn expect_keep(c: Call, ledger: &mut [u8], pile: &mut [u32], book: Book) -> Expected {
+fn expect_keep(c: Call, ledger: &mut [u8], stack: &mut [u32], model: Model) -> Expected {
     let day = c.date;
     if !is_real(day) {
-        return refused(25, book);
+        return refused(25, model);
     }
-    if is_full(ledger, book) {
-        return refused(21, book);
+    if is_full(ledger, model) {
+        return refused(21, model);
     }
     let code = date_code(day);
-    put_line(ledger, book.lines, 2097152 + code as u64, 0, 0, 0);
-    push(pile, book.top, 4294967295, code);
-    accepted(book.lines, up(book.top))
+    put_line(ledger, model.lines, 2097152 + code as u64, 0, 0, 0);
+    push(stack, model.top, 4294967295, code);
+    accepted(model.lines, up(model.top))
 }
 
-// The book's withdrawal; a frame that the writer refused here would be a difference.
+// The model's withdrawal; a frame that the writer refused here would be a difference.
 fn expect_withdrawal(
     frame: &[u8],
     opened: &[u32],
     asked: AskedForm,
     held: &mut [u8],
     ledger: &mut [u8],
-    pile: &[u32],
-    book: Book,
+    stack: &[u32],
+    model: Model,
 ) -> Expected {
-    if book.top == 0 {
-        return refused(22, book);
+    if model.top == 0 {
+        return refused(22, model);
     }
-    if is_full(ledger, book) {
-        return refused(21, book);
+    if is_full(ledger, model) {
+        return refused(21, model);
     }
-    let top = book.top - 1;
+    let top = model.top - 1;
     let mut pixels = [0u32; 24];
     copy_pixels(&mut pixels, opened);
-    correct_all(&mut pixels, pile, top);
+    correct_all(&mut pixels, stack, top);
     let n = least(opened.len(), 24);
     let number = write_number(writer::write(frame, &pixels[0..n], asked, held));
     if number != 0 {
-        return refused(number, book);
+        return refused(number, model);
     }
-    put_line(ledger, book.lines, 4194304, 0, 0, 0);
-    accepted(book.lines, top)
+    put_line(ledger, model.lines, 4194304, 0, 0, 0);
+    accepted(model.lines, top)
 }
 
-// The uppermost keep date of the pile, 0 where there is none.
-fn last_keep(pile: &[u32], top: usize) -> u32 {
+// The uppermost keep date of the stack, 0 where there is none.
+fn last_keep(stack: &[u32], top: usize) -> u32 {
     let mut i = least(top, 100000);
     while 0 < i {
         i -= 1;
-        if at_place(pile, pile_place(i)) == 4294967295 {
-            return at_place(pile, pile_place(i) + 1);
+        if at_place(stack, stack_place(i)) == 4294967295 {
+            return at_place(stack, stack_place(i) + 1);
         }
     }
     0
 }
 
-fn purge_number(day: Date, pile: &[u32], top: usize) -> u32 {
+fn purge_number(day: Date, stack: &[u32], top: usize) -> u32 {
     if !is_real(day) {
         return 25;
     }
-    let last = last_keep(pile, top);
+    let last = last_keep(stack, top);
     if last == 0 {
         return 26;
     }
     if last < date_code(day) { 0 } else { 27 }
 }
 
-// The book's answer; its frame and ledger become what the call leaves.
+// The model's answer; its frame and ledger become what the call leaves.
 fn expect(
     c: Call,
     frame: &[u8],
@@ -585,16 +585,16 @@ fn expect(
     asked: AskedForm,
     held: &mut [u8],
     ledger: &mut [u8],
-    pile: &mut [u32],
-    book: Book,
+    stack: &mut [u32],
+    model: Model,
 ) -> Expected {
     let day = c.date;
     let kind = c.kind;
     match kind {
-        0 => expect_correction(c, frame, opened, asked, held, ledger, pile, book),
-        1 => expect_keep(c, ledger, pile, book),
-        2 => expect_withdrawal(frame, opened, asked, held, ledger, pile, book),
-        _ => refused(purge_number(day, pile, book.top), book),
+        0 => expect_correction(c, frame, opened, asked, held, ledger, stack, model),
+        1 => expect_keep(c, ledger, stack, model),
+        2 => expect_withdrawal(frame, opened, asked, held, ledger, stack, model),
+        _ => refused(purge_number(day, stack, model.top), model),
     }
 }
 
@@ -615,9 +615,9 @@ fn both(a: bool, b: bool) -> bool {
 }
 
 // Whether both sides hold the same frame and the same ledger.
-fn are_same(held: &[u8], book_held: &[u8], ledger: &[u8], book_ledger: &[u8]) -> bool {
-    let a = same_bytes(held, book_held);
-    let b = same_bytes(ledger, book_ledger);
+fn are_same(held: &[u8], model_held: &[u8], ledger: &[u8], model_ledger: &[u8]) -> bool {
+    let a = same_bytes(held, model_held);
+    let b = same_bytes(ledger, model_ledger);
     both(a, b)
 }
 
@@ -629,8 +629,8 @@ fn note(tally: &mut [u32], number: u32) {
 }
 
 fn agrees(e: Expected, g: Given) -> bool {
-    let book = e.book;
-    e.number == g.number && book.lines as u64 == g.lines
+    let model = e.model;
+    e.number == g.number && model.lines as u64 == g.lines
 }
 
 // One call more, where all agreed so far.
@@ -638,7 +638,7 @@ fn count_on(p: Played) -> usize {
     if p.good { up(p.calls) } else { p.calls }
 }
 
-// A call on both sides. The notes are how often each answer came, and the pile.
+// A call on both sides. The notes are how often each answer came, and the stack.
 fn turn(
     c: Call,
     frame: &[u8],
@@ -646,19 +646,19 @@ fn turn(
     asked: AskedForm,
     held: &mut [u8],
     ledger: &mut [u8],
-    book_held: &mut [u8],
-    book_ledger: &mut [u8],
+    model_held: &mut [u8],
+    model_ledger: &mut [u8],
     notes: &mut [u32],
     p: Played,
 ) -> Played {
-    let book = p.book;
-    let g = make(c, held, ledger, book.lines as u64);
-    let e = expect(c, frame, opened, asked, book_held, book_ledger, notes, book);
+    let model = p.model;
+    let g = make(c, held, ledger, model.lines as u64);
+    let e = expect(c, frame, opened, asked, model_held, model_ledger, notes, model);
     note(notes, g.number);
-    let after = e.book;
-    let same = are_same(held, book_held, ledger, book_ledger);
+    let after = e.model;
+    let same = are_same(held, model_held, ledger, model_ledger);
     Played {
-        book: after,
+        model: after,
         calls: count_on(p),
         good: both(p.good, both(same, agrees(e, g))),
     }
@@ -680,8 +680,8 @@ fn play(
     opened: &[u32],
     held: &mut [u8],
     ledger: &mut [u8],
-    book_held: &mut [u8],
-    book_ledger: &mut [u8],
+    model_held: &mut [u8],
+    model_ledger: &mut [u8],
     notes: &mut [u32],
 ) -> Played {
     let asked = r.asked;
@@ -699,8 +699,8 @@ fn play(
             asked,
             held,
             ledger,
-            book_held,
-            book_ledger,
+            model_held,
+            model_ledger,
             notes,
             p,
         );
@@ -716,7 +716,7 @@ fn few(n: usize) -> u32 {
 
 fn start() -> Played {
     Played {
-        book: Book { lines: 0, top: 0 },
+        model: Model { lines: 0, top: 0 },
         calls: 0,
         good: true,
     }
@@ -792,18 +792,18 @@ fn try_damaged(
     row: &[u8],
     held: &mut [u8],
     ledger: &mut [u8],
-    book_held: &mut [u8],
-    book_ledger: &mut [u8],
+    model_held: &mut [u8],
+    model_ledger: &mut [u8],
     tally: &mut [u32],
     p: Played,
 ) -> Played {
-    let book = p.book;
+    let model = p.model;
     damage(row, held, ledger);
-    damage(row, book_held, book_ledger);
-    let right = are_refused(row, held, ledger, book.lines, tally);
-    let same = are_same(held, book_held, ledger, book_ledger);
+    damage(row, model_held, model_ledger);
+    let right = are_refused(row, held, ledger, model.lines, tally);
+    let same = are_same(held, model_held, ledger, model_ledger);
     Played {
-        book,
+        model,
         calls: up(up(p.calls)),
         good: both(p.good, both(right, same)),
     }
@@ -876,8 +876,8 @@ fn finish(
     asked: AskedForm,
     held: &mut [u8],
     ledger: &mut [u8],
-    book_held: &mut [u8],
-    book_ledger: &mut [u8],
+    model_held: &mut [u8],
+    model_ledger: &mut [u8],
     notes: &mut [u32],
     p: Played,
 ) -> Played {
@@ -891,12 +891,12 @@ fn finish(
         asked,
         held,
         ledger,
-        book_held,
-        book_ledger,
+        model_held,
+        model_ledger,
         notes,
         p,
     );
-    try_damaged(row, held, ledger, book_held, book_ledger, notes, q)
+    try_damaged(row, held, ledger, model_held, model_ledger, notes, q)
 }
 
 fn has_damage(row: &[u8]) -> bool {
@@ -910,8 +910,8 @@ fn play_on(
     asked: AskedForm,
     held: &mut [u8],
     ledger: &mut [u8],
-    book_held: &mut [u8],
-    book_ledger: &mut [u8],
+    model_held: &mut [u8],
+    model_ledger: &mut [u8],
     notes: &mut [u32],
 ) -> Played {
     let p = play(
@@ -920,8 +920,8 @@ fn play_on(
         opened,
         held,
         ledger,
-        book_held,
-        book_ledger,
+        model_held,
+        model_ledger,
         notes,
     );
     finish(
@@ -931,8 +931,8 @@ fn play_on(
         asked,
         held,
         ledger,
-        book_held,
-        book_ledger,
+        model_held,
+        model_ledger,
         notes,
         p,
     )
@@ -951,12 +951,12 @@ fn play_row(
     opened: &[u32],
     asked: AskedForm,
     held: &mut [u8],
-    book_held: &mut [u8],
+    model_held: &mut [u8],
     totals: &mut [u32],
 ) {
     let size = ledger_size(row);
     let mut ledger = [171u8; 3216];
-    let mut book_ledger = [171u8; 3216];
+    let mut model_ledger = [171u8; 3216];
     let mut notes = [0u32; 540];
     let p = play_on(
         row,
@@ -965,8 +965,8 @@ fn play_row(
         asked,
         held,
         &mut ledger[0..size],
-        book_held,
-        &mut book_ledger[0..size],
+        model_held,
+        &mut model_ledger[0..size],
         &mut notes,
     );
     show(p, &notes);
@@ -1001,18 +1001,18 @@ fn is_opened(answer: OpenAnswer, n: usize) -> bool {
     }
 }
 
-// Whether opening the frame in the held buffer gives what the writer gives the book.
+// Whether opening the frame in the held buffer gives what the writer gives the model.
 fn opens(
     frame: &[u8],
     pixels: &[u32],
     asked: AskedForm,
     opened: &mut [u32],
     held: &mut [u8],
-    book_held: &mut [u8],
+    model_held: &mut [u8],
 ) -> bool {
     let answer = archive::open(frame, opened, asked, held);
-    let again = written(writer::write(frame, pixels, asked, book_held));
-    both(is_opened(answer, again), same_bytes(held, book_held))
+    let again = written(writer::write(frame, pixels, asked, model_held));
+    both(is_opened(answer, again), same_bytes(held, model_held))
 }
 
 fn open_row(
@@ -1022,11 +1022,11 @@ fn open_row(
     asked: AskedForm,
     opened: &mut [u32],
     held: &mut [u8],
-    book_held: &mut [u8],
+    model_held: &mut [u8],
     totals: &mut [u32],
 ) {
-    if opens(frame, pixels, asked, opened, held, book_held) {
-        play_row(row, frame, opened, asked, held, book_held, totals);
+    if opens(frame, pixels, asked, opened, held, model_held) {
+        play_row(row, frame, opened, asked, held, model_held, totals);
     } else {
         word(b" -> DIFFERS at the opening\n");
     }
@@ -1044,7 +1044,7 @@ fn hold_row(row: &[u8], frame: &[u8], pixels: &[u32], asked: AskedForm, totals: 
     let size = held_size(row, frame);
     let mut opened = [0u32; 24];
     let mut held = [170u8; 9216];
-    let mut book_held = [170u8; 9216];
+    let mut model_held = [170u8; 9216];
     open_row(
         row,
         frame,
@@ -1052,7 +1052,7 @@ fn hold_row(row: &[u8], frame: &[u8], pixels: &[u32], asked: AskedForm, totals: 
         asked,
         &mut opened[0..n],
         &mut held[0..size],
-        &mut book_held[0..size],
+        &mut model_held[0..size],
         totals,
     );
 }

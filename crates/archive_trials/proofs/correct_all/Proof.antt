@@ -6,10 +6,10 @@ use Rattle.archive_trials.proofs.correct_all.Statement.{statement}
 use Rattle.archive_trials.proofs.correct_all.Tie as tie
 
 abbrev Inv-loop : tie.InvT-loop
-Inv-loop pixels₀ pile top end i₀ pixels i = (i ≤ end) × (length pixels ≡ length pixels₀)
+Inv-loop pixels₀ stack top end i₀ pixels i = (i ≤ end) × (length pixels ≡ length pixels₀)
 
 abbrev μ-loop : tie.MeasureT-loop
-μ-loop pixels₀ pile top end i₀ pixels i = end - i
+μ-loop pixels₀ stack top end i₀ pixels i = end - i
 
 least-requires : tie.Need-least-requires Inv-loop μ-loop
 least-requires c κs = search needs
@@ -17,8 +17,8 @@ least-requires c κs = search needs
 loop-holds : tie.Need-loop-holds Inv-loop μ-loop
 loop-holds c = search needs
 
-pile-place-requires : tie.Need-pile-place-requires Inv-loop μ-loop
-pile-place-requires c κs = search needs
+stack-place-requires : tie.Need-stack-place-requires Inv-loop μ-loop
+stack-place-requires c κs = search needs
 
 at-place-requires : tie.Need-at-place-requires Inv-loop μ-loop
 at-place-requires c κs = search needs
@@ -26,8 +26,8 @@ at-place-requires c κs = search needs
 cast-set : tie.Need-cast-set Inv-loop μ-loop
 cast-set c = search needs
 
-pile-place-requires-2 : tie.Need-pile-place-requires-2 Inv-loop μ-loop
-pile-place-requires-2 c κs = search needs
+stack-place-requires-2 : tie.Need-stack-place-requires-2 Inv-loop μ-loop
+stack-place-requires-2 c κs = search needs
 
 add-at-place : tie.Need-add-at-place Inv-loop μ-loop
 add-at-place c = search needs
@@ -61,10 +61,10 @@ correct-all-spec =
     μ-loop
     least-requires
     loop-holds
-    pile-place-requires
+    stack-place-requires
     at-place-requires
     cast-set
-    pile-place-requires-2
+    stack-place-requires-2
     add-at-place
     at-place-requires-2
     set-requires

@@ -4,10 +4,10 @@ use Rattle.archive_trials.proofs.last_keep.Statement.{statement}
 use Rattle.archive_trials.proofs.last_keep.Tie as tie
 
 abbrev Inv-loop : tie.InvT-loop
-Inv-loop pile top i₀ i = i ≤ 100000
+Inv-loop stack top i₀ i = i ≤ 100000
 
 abbrev μ-loop : tie.MeasureT-loop
-μ-loop pile top i₀ i = i
+μ-loop stack top i₀ i = i
 
 least-requires : tie.Need-least-requires Inv-loop μ-loop
 least-requires c κs = search needs
@@ -18,14 +18,14 @@ loop-holds c = search needs
 sub-i : tie.Need-sub-i Inv-loop μ-loop
 sub-i c = search needs
 
-pile-place-requires : tie.Need-pile-place-requires Inv-loop μ-loop
-pile-place-requires c κs = search needs
+stack-place-requires : tie.Need-stack-place-requires Inv-loop μ-loop
+stack-place-requires c κs = search needs
 
 at-place-requires : tie.Need-at-place-requires Inv-loop μ-loop
 at-place-requires c κs = search needs
 
-pile-place-requires-2 : tie.Need-pile-place-requires-2 Inv-loop μ-loop
-pile-place-requires-2 c κs = search needs
+stack-place-requires-2 : tie.Need-stack-place-requires-2 Inv-loop μ-loop
+stack-place-requires-2 c κs = search needs
 
 add-at-place : tie.Need-add-at-place Inv-loop μ-loop
 add-at-place c = search needs
@@ -54,9 +54,9 @@ last-keep-spec =
     least-requires
     loop-holds
     sub-i
-    pile-place-requires
+    stack-place-requires
     at-place-requires
-    pile-place-requires-2
+    stack-place-requires-2
     add-at-place
     at-place-requires-2
     returns

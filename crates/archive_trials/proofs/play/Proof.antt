@@ -6,11 +6,11 @@ use Rattle.archive_trials.proofs.play.Statement.{statement}
 use Rattle.archive_trials.proofs.play.Tie as tie
 
 abbrev Inv-loop : tie.InvT-loop
-Inv-loop frame opened held₀ ledger₀ book-held₀ book-ledger₀ notes₀ asked baseline calls p₀ s₀ k₀ held ledger book-held book-ledger notes p s k =
-    (length held ≡ length held₀) × (length ledger ≡ length ledger₀) × (length book-held ≡ length book-held₀) × (length book-ledger ≡ length book-ledger₀) × (length notes ≡ length notes₀)
+Inv-loop frame opened held₀ ledger₀ model-held₀ model-ledger₀ notes₀ asked baseline calls p₀ s₀ k₀ held ledger model-held model-ledger notes p s k =
+    (length held ≡ length held₀) × (length ledger ≡ length ledger₀) × (length model-held ≡ length model-held₀) × (length model-ledger ≡ length model-ledger₀) × (length notes ≡ length notes₀)
 
 abbrev μ-loop : tie.MeasureT-loop
-μ-loop frame opened held₀ ledger₀ book-held₀ book-ledger₀ notes₀ asked baseline calls p₀ s₀ k₀ held ledger book-held book-ledger notes p s k =
+μ-loop frame opened held₀ ledger₀ model-held₀ model-ledger₀ notes₀ asked baseline calls p₀ s₀ k₀ held ledger model-held model-ledger notes p s k =
     calls - k
 
 least-requires : tie.Need-least-requires Inv-loop μ-loop
