@@ -3,21 +3,20 @@
 use mathlib.Core.Path.{_≡_, refl, sym, ap, _∙_}
 use mathlib.Core.List.{List, [], _∷_, _++_, append-assoc, append-nil, map}
 use Prim.Native.Nat.{ℕ, zero, suc, _+_, _*_, _-_, _/_, _%_, _≤_, _<_}
-use native.Mathlib.Nat.{add-zero, add-mul, suc-mul, zero-mul, mul-le-mul-right}
+use native.Mathlib.Nat.{add-mul, suc-mul, zero-mul, mul-le-mul-right}
 use native.Mathlib.Numerals.{add-one}
 use native.Mathlib.Omega.{arith}
 use lib.ListN.{length, take, drop, getD, set, length-append, length-set, take-append-drop, length-drop, length-take, drop-of-length-le}
-use lib.Seq.{take-suc, take-all, drop-set-lt, take-suc-set, append-snoc, drop-drop, take-at, drop-at, length-take-le, take-length}
+use lib.Seq.{take-suc, drop-set-lt, take-suc-set, append-snoc, drop-drop, take-at, drop-at, length-take-le, take-length}
 use lib.Dec.{leb}
 use borrow.Rule.Slice.PartMut.{putMid, post-is}
 use borrow.Author.Tests.{le-leb}
 use Rattle.lists.specs.Choose.{if_then_else_}
-use Rattle.lists.specs.Bytes.{littleBytes, zeros, over}
+use Rattle.lists.specs.Bytes.{littleBytes, over}
 use Rattle.lists.specs.Parts.{withPart}
 use Rattle.lists.proofs.Numbers.{mul-split}
 use Rattle.lists.proofs.Halves.{Halves, written-more, written-end}
-use Rattle.layout.specs.Layout.{tableBytes}
-use Rattle.table.specs.Writing.{tableOf, paddedTable, lessWrapped}
+use Rattle.table.specs.Writing.{tableOf, lessWrapped}
 
 pub length-littleBytes : (w v : ℕ) → length (littleBytes w v) ≡ w
 unfolding littleBytes

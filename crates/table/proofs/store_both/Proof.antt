@@ -2,7 +2,6 @@ use mathlib.Core.Path.{refl}
 use Prim.Native.Nat.{_-_, _*_, _≤_}
 use native.Mathlib.Nat.{zero-mul}
 use native.Mathlib.Omega.{arith}
-use lib.ListN.{length}
 use Rattle.layout.specs.Form.{widthBytes}
 use Rattle.table.specs.Writing.{tableOf}
 use Rattle.lists.proofs.Halves.{Halves, halves-start}
