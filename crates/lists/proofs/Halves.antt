@@ -4,7 +4,7 @@ use mathlib.Core.Path.{_≡_, refl, sym, ap, _∙_}
 use mathlib.Core.Bool.{Bool, true, false}
 use mathlib.Core.List.{List, _++_}
 use Prim.Native.Nat.{ℕ, _+_, _-_, _*_, _≤_, _<_}
-use native.Mathlib.Nat.{add-mul, mul-le-mul-right, le-trans}
+use native.Mathlib.Nat.{mul-le-mul-right, le-trans}
 use native.Mathlib.Omega.{arith}
 use borrow.Rule.Slice.PartMut.{putMid, post-is}
 use lib.ListN.{length, getD, take, drop, length-append, length-drop, List·getD-append}
@@ -13,12 +13,11 @@ use lib.Dec.{leb, ltb}
 use borrow.Author.Tests.{le-leb, ltb-true, ltb-false}
 use Rattle.lists.specs.Choose.{if_then_else_}
 use Rattle.lists.specs.Parts.{withPart}
+use Rattle.lists.proofs.Numbers.{mul-split}
 
 -- where n numbers of w bytes fit, so do those from p to e, behind the ones before them
 pub part-fits : (w p e n m : ℕ) → p ≤ e → e ≤ n → n * w ≤ m → p * w + (e - p) * w ≤ m
-part-fits w p e n m h k l =
-    let s : p + (e - p) ≡ e = omega arith in
-    rw (← add-mul, s) (le-trans (mul-le-mul-right w k) l)
+part-fits w p e n m h k l = rw (← mul-split w p e h) (le-trans (mul-le-mul-right w k) l)
 
 past : (xs ys : List ℕ) (j n : ℕ) → length xs ≡ n → n ≤ j → getD (xs ++ ys) j 0 ≡ getD ys (j - n) 0
 past xs ys j n e h =

@@ -3,14 +3,20 @@
 use mathlib.Core.Path.{_≡_, refl, sym, ap, _∙_}
 use mathlib.Core.List.{List, [], _∷_, _++_, append-assoc, append-nil, map}
 use Prim.Native.Nat.{ℕ, zero, suc, _+_, _*_, _-_, _/_, _%_, _≤_, _<_}
-use native.Mathlib.Nat.{add-zero, suc-mul, zero-mul}
+use native.Mathlib.Nat.{add-mul, suc-mul, zero-mul, mul-le-mul-right}
 use native.Mathlib.Numerals.{add-one}
 use native.Mathlib.Omega.{arith}
-use lib.ListN.{length, take, drop, getD, set, length-append, length-set, take-append-drop, length-drop, length-take}
-use lib.Seq.{take-suc, take-all, drop-set-lt, take-suc-set, append-snoc, drop-drop, take-at, drop-at, length-take-le, take-length}
-use Rattle.lists.specs.Bytes.{littleBytes, zeros, over}
-use Rattle.layout.specs.Layout.{tableBytes}
-use Rattle.table.specs.Writing.{tableOf, paddedTable, lessWrapped}
+use lib.ListN.{length, take, drop, getD, set, length-append, length-set, take-append-drop, length-drop, length-take, drop-of-length-le}
+use lib.Seq.{take-suc, drop-set-lt, take-suc-set, append-snoc, drop-drop, take-at, drop-at, length-take-le, take-length}
+use lib.Dec.{leb}
+use borrow.Rule.Slice.PartMut.{putMid, post-is}
+use borrow.Author.Tests.{le-leb}
+use Rattle.lists.specs.Choose.{if_then_else_}
+use Rattle.lists.specs.Bytes.{littleBytes, over}
+use Rattle.lists.specs.Parts.{withPart}
+use Rattle.lists.proofs.Numbers.{mul-split}
+use Rattle.lists.proofs.Halves.{Halves, written-more, written-end}
+use Rattle.table.specs.Writing.{tableOf, lessWrapped}
 
 pub length-littleBytes : (w v : ℕ) → length (littleBytes w v) ≡ w
 unfolding littleBytes
@@ -107,3 +113,43 @@ less-none [] h = refl
 less-none (x ∷ xs) h =
     let e : lessWrapped 0 x ≡ x = omega (arith, h 0) in
     rw (less-none xs (λ i. h (suc i)), e)
+
+table-split : (w n : ℕ) (values : List ℕ) → tableOf w values ≡ tableOf w (take n values) ++ tableOf w (drop n values)
+table-split w n values = ap (tableOf w) (sym (take-append-drop n values)) ∙ table-append w (take n values) (drop n values)
+
+length-front : (w n : ℕ) (values : List ℕ) → n ≤ length values → length (tableOf w (take n values)) ≡ n * w
+length-front w n values h = length-table w (take n values) ∙ ap (λ (m : ℕ). m * w) (length-take-le n values h)
+
+-- the bytes of entries p to e
+pub table-part : (w p e : ℕ) (values : List ℕ) → p ≤ e → e ≤ length values → take (e * w - p * w) (drop (p * w) (tableOf w values)) ≡ tableOf w (take (e - p) (drop p values))
+table-part w p e values h k =
+    let n : e * w - p * w ≡ (e - p) * w = omega (arith, mul-split w p e h) in
+    let d : drop (p * w) (tableOf w values) ≡ tableOf w (drop p values) =
+    rw (table-split w p values) (drop-at (tableOf w (take p values)) (tableOf w (drop p values)) (p * w) (length-front w p values (omega arith))) in
+    rw (n, d, table-split w (e - p) (drop p values))
+    (take-at (tableOf w (take (e - p) (drop p values))) _ ((e - p) * w) (length-front w (e - p) (drop p values) (rw length-drop (omega arith))))
+
+-- a part stored
+pub part-stored : (w : ℕ) (values out ys : List ℕ) (p e : ℕ) → p ≤ e → e ≤ length values → length out ≡ length values * w
+    → ys ≡ if_then_else_ (leb (length (take (e - p) (drop p values)) * w) (length (take (e * w - p * w) (drop (p * w) out)))) (tableOf w (take (e - p) (drop p values)) ++ drop (length (take (e - p) (drop p values)) * w) (take (e * w - p * w) (drop (p * w) out))) (take (e * w - p * w) (drop (p * w) out))
+    → putMid (p * w) (e * w - p * w) out ys ≡ withPart (p * w) (e * w) (tableOf w values) out
+unfolding withPart
+part-stored w values out ys p e h k l q =
+    let mid : List ℕ = take (e * w - p * w) (drop (p * w) out) in
+    let n : length (take (e - p) (drop p values)) ≡ e - p = length-take-le (e - p) (drop p values) (rw length-drop (omega arith)) in
+    let b : length mid ≡ (e - p) * w = length-take-le (e * w - p * w) (drop (p * w) out) (rw length-drop (omega (arith, mul-le-mul-right w k))) ∙ omega (arith, mul-split w p e h) in
+    let y : ys ≡ take (e * w - p * w) (drop (p * w) (tableOf w values)) =
+    q ∙ rw (n, le-leb ((e - p) * w) (length mid) (omega (arith, b)), drop-of-length-le mid {i = (e - p) * w} (omega (arith, b)), append-nil) (sym (table-part w p e values h k)) in
+    rw (y, post-is (p * w) (e * w) out (mul-le-mul-right w h))
+
+-- two parts stored one after the other: up to e of the first half, and to f of the second
+module _ (w : ℕ) (values out₀ out out₁ out₂ : List ℕ) (half p e f : ℕ) (l : length out₀ ≡ length values * w) (s : Halves (half * w) (tableOf w values) out₀ out (p * w)) (h : p ≤ e) (k : e ≤ half) (m : half + e ≤ f) (n : f ≤ length values)
+    (a : out₁ ≡ withPart (p * w) (e * w) (tableOf w values) out) (b : out₂ ≡ withPart ((half + p) * w) (f * w) (tableOf w values) out₁) where
+  up : half * w + e * w ≤ f * w
+  up = rw (← add-mul) (mul-le-mul-right w m)
+
+  pub stored-more : f ≡ half + e → Halves (half * w) (tableOf w values) out₀ out₂ (e * w)
+  stored-more q = written-more (λ _. tableOf w values) out₀ out out₁ out₂ (half * w) (p * w) (e * w) (f * w) (length-table w values ∙ sym l) s (mul-le-mul-right w h) (mul-le-mul-right w k) up (rw l (mul-le-mul-right w n)) a (rw add-mul at b) (ap (λ (x : ℕ). x * w) q ∙ add-mul half e w)
+
+  pub stored-end : e ≡ half → f ≡ length values → out₂ ≡ tableOf w values
+  stored-end q r = written-end (λ _. tableOf w values) out₀ out out₁ out₂ (half * w) (p * w) (e * w) (f * w) (length-table w values ∙ sym l) s (mul-le-mul-right w h) (mul-le-mul-right w k) up (rw l (mul-le-mul-right w n)) a (rw add-mul at b) (ap (λ (x : ℕ). x * w) q) (ap (λ (x : ℕ). x * w) r ∙ sym l)

@@ -196,6 +196,48 @@ pub fn store(values: &[u32], w: Width, out: &mut [u8]) -> bool
     store_less(values, 0, w, out)
 }
 
+// The values p to e as entries, into their places.
+fn store_part(values: &[u32], w: Width, p: usize, e: usize, out: &mut [u8])
+    requires { ⌜ (p ≤ e) × (e ≤ length (now values)) × (length (now out) ≡ length (now values) * widthBytes w) ⌝ }
+    ensures { λ _. ⌜ now (out .exit) ≡ withPart (p * widthBytes w) (e * widthBytes w) (tableOf (widthBytes w) (now (values .entry))) (now (out .entry)) ⌝ }
+{
+    let each = layout::width_bytes(w);
+    let a = p * each;
+    let b = e * each;
+    store(&values[p..e], w, &mut out[a..b]);
+}
+
+// The two halves side by side, 256 entries of each in turn.
+fn store_both(values: &[u32], w: Width, out: &mut [u8])
+    requires { ⌜ length (now out) ≡ length (now values) * widthBytes w ⌝ }
+    ensures { λ _. ⌜ now (out .exit) ≡ tableOf (widthBytes w) (now (values .entry)) ⌝ }
+{
+    let n = values.len();
+    let half = n / 2;
+    let mut p = 0;
+    while p + 256 <= half {
+        let e = p + 256;
+        store_part(values, w, p, e, out);
+        store_part(values, w, half + p, half + e, out);
+        p = e;
+    }
+    store_part(values, w, p, half, out);
+    store_part(values, w, half + p, n, out);
+}
+
+// What store does, in two streams.
+pub fn store_halves(values: &[u32], w: Width, out: &mut [u8]) -> bool
+    ensures { λ r. ⌜ r ≡ leb (length (now (values .entry)) * widthBytes w) (length (now (out .entry))) ⌝ }
+    ensures { λ _. ⌜ now (out .exit) ≡ if_then_else_ (leb (length (now (values .entry)) * widthBytes w) (length (now (out .entry)))) (tableOf (widthBytes w) (now (values .entry)) ++ drop (length (now (values .entry)) * widthBytes w) (now (out .entry))) (now (out .entry)) ⌝ }
+{
+    let end = values.len() * layout::width_bytes(w);
+    if out.len() < end {
+        return false;
+    }
+    store_both(values, w, &mut out[..end]);
+    true
+}
+
 // The byte in every place.
 pub fn fill(out: &mut [u8], byte: u8)
     ensures { λ _. ⌜ now (out .exit) ≡ replicate (length (now (out .entry))) byte ⌝ }

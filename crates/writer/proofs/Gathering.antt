@@ -222,3 +222,8 @@ block-few form base pixels c p e h k q =
 
 pub blocks-done : {form : Form} {base : ℕ} {pixels : List ℕ} {c : Counts} {p : ℕ} → Blocks form base pixels c p → length pixels ≤ p → c ≡ countsFor form (countsOf base pixels)
 blocks-done {form} {base} {pixels} {c} {p} f h = rw (take-all p pixels h) at (f .is)
+
+-- width 4 with kind none has no entries to count
+pub plain-counts : (form : Form) (c : Counts) → form .width ≡ W.Four → form .underflow ≡ U.None → _≡_ {A = Counts} (record { under = 0; two = 0; four = 0 }) (countsFor form c)
+unfolding countsFor
+plain-counts form c w u = rw (w, u)

@@ -11,7 +11,7 @@ use borrow.Author.Tests.{le-leb}
 use borrow.Rule.Slice.PartMut.{putMid}
 use Rattle.lists.specs.Choose.{if_then_else_}
 use Rattle.lists.proofs.Over.{over-none}
-use Rattle.table.specs.Writing.{tableOf}
+use Rattle.table.specs.Writing.{tableOf, lessWrapped}
 use Rattle.table.proofs.Storing.{length-table}
 use Rattle.layout.specs.declared.Width.the-variants as W
 use Rattle.writer.specs.Storing.{atMost65535, storedValue}
@@ -29,6 +29,12 @@ put-part values d ys w at e p h q =
     let z : drop (length values * w) (take (e - at) (drop at d)) ≡ [] = drop-of-length-le (take (e - at) (drop at d)) {i = length values * w} (rw l (omega arith)) in
     let y : ys ≡ tableOf w values = q ∙ rw (l, le-leb (length values * w) (length values * w) (omega arith), z, append-nil) in
     rw (y, n, length-table, drop-drop)
+
+-- the same for values less a base
+pub run-part : (run d ys : List ℕ) (base w at e : ℕ) → e ≡ at + length run * w → e ≤ length d
+    → ys ≡ if_then_else_ (leb (length run * w) (length (take (e - at) (drop at d)))) (tableOf w (map (lessWrapped base) run) ++ drop (length run * w) (take (e - at) (drop at d))) (take (e - at) (drop at d))
+    → putMid at (e - at) d ys ≡ over at (tableOf w (map (lessWrapped base) run)) d
+run-part run d ys base w at e p h q = put-part (map (lessWrapped base) run) d ys w at e (rw length-map p) h (rw length-map q)
 
 -- nothing gathered
 pub none-found : (r : ℕ) (xs : List ℕ) → r ≡ length xs → r ≡ 0 → xs ≡ []

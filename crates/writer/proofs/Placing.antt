@@ -225,10 +225,10 @@ fitting-whole start form s out h =
       four = rw length-replicate (table-ge 4 (length (s .four)));
     }
 
-none : Stored
+unfoldable pub none : Stored
 none = record { image = []; under = []; two = []; four = [] }
 
-stored-nil : (form : Form) (base : ℕ) → storedFor form base [] ≡ none
+pub stored-nil : (form : Form) (base : ℕ) → storedFor form base [] ≡ none
 unfolding storedFor only none
 stored-nil form base = rw (u (form .underflow), t (form .width), f (form .width))
   where

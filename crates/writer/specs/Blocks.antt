@@ -1,9 +1,10 @@
 -- What the private functions say of themselves: pixels lowered and capped, and bytes put over a buffer. No public contract cites this file.
 use Prim.Native.Nat.{ℕ, _+_, _-_, _*_, _≤_}
-use mathlib.Core.Bool.{Bool, true, false}
-use mathlib.Core.List.{List, map}
-use lib.ListN.{length}
-use lib.Dec.{leb}
+use mathlib.Core.Path.{_≡_}
+use mathlib.Core.Bool.{Bool, true, false, _||_}
+use mathlib.Core.List.{List, [], map}
+use lib.ListN.{length, take, drop}
+use lib.Dec.{leb, ltb}
 use Rattle.lists.specs.Choose.{if_then_else_}
 use Rattle.lists.specs.Bytes.{over}
 use Rattle.layout.specs.declared.Width.{Width}
@@ -26,6 +27,7 @@ use Rattle.writer.specs.declared.BaseAnswer.{BaseAnswer}
 use Rattle.writer.specs.declared.BaseAnswer.the-variants as B
 use Rattle.writer.specs.declared.Counts.{Counts}
 use Rattle.writer.specs.declared.Places.{Places}
+use Rattle.writer.specs.declared.Range.{Range}
 
 -- a pixel less the baseline, 0 where it underflows
 abbrev pub less : ℕ → ℕ → ℕ
@@ -59,6 +61,31 @@ isPlain W.One u = false
 isPlain W.Two u = false
 isPlain W.Four U.None = true
 isPlain W.Four (U.Subtracted e) = false
+
+-- the least pixel that a kind stores with no entry
+abbrev pub lowestPlain : Underflow → ℕ → ℕ
+lowestPlain U.None base = 0
+lowestPlain (U.Subtracted e) base = base + 1
+
+-- the largest pixel that a width stores with no entry
+abbrev pub highestPlain : Width → ℕ → ℕ
+highestPlain W.One base = base + 254
+highestPlain W.Two base = base + 65534
+highestPlain W.Four base = 4294967295
+
+-- the pixels that a form stores with no entry
+abbrev pub plainRange : Form → ℕ → Range
+plainRange form base = record { low = lowestPlain (form .underflow) base; span = highestPlain (form .width) base - lowestPlain (form .underflow) base }
+
+-- v is outside a range
+abbrev pub isOutside : Range → ℕ → Bool
+isOutside k v = ltb v (k .low) || ltb (k .low + k .span) v
+
+-- no element from p to q passes the test
+pub record Without (f : ℕ → Bool) (s : List ℕ) (p q : ℕ) : Type 0 where
+  pub from : p ≤ q
+  pub upto : q ≤ length s
+  pub none : only f (take (q - p) (drop p s)) ≡ []
 
 -- the values of a block in a width, and their entries, fit from the places on in a buffer of n bytes
 pub record ValuesRoom (w : Width) (low : List ℕ) (at : Places) (n : ℕ) : Type 0 where

@@ -1,7 +1,7 @@
 // Writing a frame of FORMAT 100.
 ghost use mathlib.Core.Path.{_≡_};
 ghost use mathlib.Core.Bool.{true, false, _&&_, _||_};
-ghost use mathlib.Core.List.{[], map, _++_};
+ghost use mathlib.Core.List.{[], _∷_, map, _++_};
 ghost use Prim.Native.Nat.{_+_, _-_, _*_, _^_, _<_, _≤_};
 ghost use lib.ListN.{length, take, drop, replicate};
 ghost use lib.Dec.{leb, ltb};
@@ -11,11 +11,11 @@ ghost use Rattle.lists.specs.Bytes.{zeros, heldBytes, over, sameBytes};
 ghost use Rattle.layout.specs.Layout.{tableBytes};
 ghost use Rattle.layout.specs.Form.{widthBytes, entryBytes};
 ghost use Rattle.layout.specs.declared.Width.the-variants.{One, Two, Four};
-ghost use Rattle.table.specs.Writing.{tableOf};
+ghost use Rattle.table.specs.Writing.{tableOf, lessWrapped};
 ghost use Rattle.lists.specs.Digits.{digitsUpTo, decimal};
 ghost use Rattle.writer.specs.Storing.{only, isUnderflow, underEntries, atMost65535, storedFor};
 ghost use Rattle.writer.specs.Frame.{spaces, cell, underflowText, underflowBytes, npixelbData, relined, linesWritten, bodyBytes, frameLength, frameBytes, countsData, storedCounts};
-ghost use Rattle.writer.specs.Blocks.{less, capped, countsOf, countsMore, countsFor, usedBase, isPlain, Room, ValuesRoom, putBlock, putValues, placesAfter, placesPast, placesBy, placesFor, underCount, twoCount, fourCount, baseAnswer, givenBaseline, tablesBaseline, Sized};
+ghost use Rattle.writer.specs.Blocks.{less, capped, countsOf, countsMore, countsFor, usedBase, isPlain, Room, ValuesRoom, putBlock, putValues, placesAfter, placesPast, placesBy, placesFor, underCount, twoCount, fourCount, baseAnswer, givenBaseline, tablesBaseline, Sized, Without, lowestPlain, highestPlain, plainRange, isOutside};
 ghost use Rattle.writer.specs.Writer.{anyAbove255, underflowTooLarge, baseFor, lineBase, madeOf, madeWith, madeAs, madeFrom, answerOf, outputOf, writeAnswer, writeBytes};
 ghost use Rattle.header.specs.Body.{baselineOf};
 ghost use Rattle.header.specs.Header.{headerOf};
@@ -48,6 +48,12 @@ pub enum WriteAnswer {
 enum BaseAnswer {
     Given(u32),
     Missing,
+}
+
+// The pixels from low to low + span.
+struct Range {
+    low: u32,
+    span: u32,
 }
 
 // How many pixels underflow, and how many are 255 and 65535 above the baseline.
@@ -285,37 +291,26 @@ fn add_counts(c: Counts, d: Counts) -> Counts
     }
 }
 
-// The pixels of a block that is counted: few where a second count is spared by a block without two-byte entries.
-fn counted_at_once(w: Width) -> usize
-    ensures { λ r. ⌜ 0 < r ⌝ }
-{
-    match w {
-        Width::One => 64,
-        Width::Two => 1024,
-        Width::Four => 1024,
-    }
-}
-
-// The counts of all pixels, in one pass.
+// The counts of all pixels, in one pass: 128 pixels at a time, and what is left.
 fn count_blocks(pixels: &[u32], form: Form, base: u32) -> Counts
     requires { ⌜ (length (now pixels) < 2 ^ 32) × (base ≤ 65535) ⌝ }
     ensures { λ r. ⌜ r ≡ countsFor form (countsOf base (now (pixels .entry))) ⌝ }
 {
-    let w = form.width;
-    let size = counted_at_once(w);
+    let n = pixels.len();
     let mut c = Counts {
         under: 0,
         two: 0,
         four: 0,
     };
     let mut p = 0;
-    while p < pixels.len() {
-        let e = block_end(p, pixels.len(), size);
+    while 128 <= n - p {
+        let e = p + 128;
         let d = count_block(&pixels[p..e], form, base);
         c = add_counts(c, d);
         p = e;
     }
-    c
+    let d = count_block(&pixels[p..n], form, base);
+    add_counts(c, d)
 }
 
 // The values as entries in the bytes of out from `at` on.
@@ -531,6 +526,302 @@ fn store_blocks(
         );
         p = e;
     }
+}
+
+// The least pixel that a kind stores with no entry.
+fn lowest_plain(u: Underflow, base: u32) -> u32
+    requires { ⌜ base ≤ 65535 ⌝ }
+    ensures { λ r. ⌜ r ≡ lowestPlain u base ⌝ }
+{
+    match u {
+        Underflow::None => 0,
+        Underflow::Subtracted(_) => base + 1,
+    }
+}
+
+// The largest pixel that a width stores with no entry.
+fn highest_plain(w: Width, base: u32) -> u32
+    requires { ⌜ base ≤ 65535 ⌝ }
+    ensures { λ r. ⌜ r ≡ highestPlain w base ⌝ }
+{
+    match w {
+        Width::One => base + 254,
+        Width::Two => base + 65534,
+        Width::Four => 4294967295,
+    }
+}
+
+// The pixels that a form stores with no entry.
+fn plain_range(form: Form, base: u32) -> Range
+    requires { ⌜ base ≤ 65535 ⌝ }
+    ensures { λ r. ⌜ r ≡ plainRange form base ⌝ }
+{
+    let w = form.width;
+    let u = form.underflow;
+    let low = lowest_plain(u, base);
+    Range {
+        low,
+        span: highest_plain(w, base) - low,
+    }
+}
+
+// One compare: a pixel below the range wraps to more than its span.
+fn is_outside(v: u32, k: Range) -> bool
+    requires { ⌜ k .low + k .span < 2 ^ 32 ⌝ }
+    ensures { λ r. ⌜ r ≡ isOutside k v ⌝ }
+{
+    k.span < std::num::wrapping_sub_u32(v, k.low)
+}
+
+// Whether some pixel is outside. Every one is looked at, so that the loop is made of vector instructions.
+fn any_outside(s: &[u32], k: Range) -> bool
+    requires { ⌜ k .low + k .span < 2 ^ 32 ⌝ }
+    ensures { λ r. ⌜ (r ≡ false → Without (isOutside k) (now (s .entry)) 0 (length (now (s .entry)))) ⌝ }
+{
+    let mut found = false;
+    let mut i = 0;
+    while i < s.len() {
+        if is_outside(s[i], k) {
+            found = true;
+        }
+        i += 1;
+    }
+    found
+}
+
+// The first pixel from p on that is outside, or the end.
+fn first_outside(s: &[u32], p: usize, k: Range) -> usize
+    requires { ⌜ (p ≤ length (now s)) × (k .low + k .span < 2 ^ 32) ⌝ }
+    ensures { λ r. ⌜ Without (isOutside k) (now (s .entry)) p r ⌝ }
+{
+    let mut q = p;
+    while q < s.len() {
+        if is_outside(s[q], k) {
+            break;
+        }
+        q += 1;
+    }
+    q
+}
+
+// The same, 16 pixels at a time as long as none of them is.
+fn next_outside(s: &[u32], p: usize, k: Range) -> usize
+    requires { ⌜ (p ≤ length (now s)) × (k .low + k .span < 2 ^ 32) ⌝ }
+    ensures { λ r. ⌜ Without (isOutside k) (now (s .entry)) p r ⌝ }
+{
+    let n = s.len();
+    let mut q = p;
+    while 16 <= n - q {
+        let e = q + 16;
+        if any_outside(&s[q..e], k) {
+            break;
+        }
+        q = e;
+    }
+    first_outside(s, q, k)
+}
+
+// A run less the baseline, with a loop for each width.
+fn put_run(run: &[u32], w: Width, base: u32, out: &mut [u8], at: usize)
+    requires { ⌜ at + length (now run) * widthBytes w ≤ length (now out) ⌝ }
+    ensures { λ _. ⌜ now (out .exit) ≡ over at (tableOf (widthBytes w) (map (lessWrapped base) (now (run .entry)))) (now (out .entry)) ⌝ }
+{
+    let e = at + run.len() * layout::width_bytes(w);
+    match w {
+        Width::One => {
+            table::store_less(run, base, Width::One, &mut out[at..e]);
+        }
+        Width::Two => {
+            table::store_less(run, base, Width::Two, &mut out[at..e]);
+        }
+        Width::Four => {
+            table::store_less(run, base, Width::Four, &mut out[at..e]);
+        }
+    }
+}
+
+// A run of pixels that need no entry.
+fn put_plain(run: &[u32], form: Form, base: u32, out: &mut [u8], at: Places) -> Places
+    requires { ⌜ (only (isOutside (plainRange form base)) (now run) ≡ []) × (base ≡ usedBase (form .underflow) base) × (base ≤ 65535) × Room form (storedFor form base (now run)) at (length (now out)) ⌝ }
+    ensures { λ r. ⌜ r ≡ placesAfter form (storedFor form base (now (run .entry))) at ⌝ }
+    ensures { λ _. ⌜ now (out .exit) ≡ putBlock form (storedFor form base (now (run .entry))) at (now (out .entry)) ⌝ }
+{
+    let w = form.width;
+    let image = at.image + run.len() * layout::width_bytes(w);
+    put_run(run, w, base, out, at.image);
+    Places {
+        image,
+        under: at.under,
+        two: at.two,
+        four: at.four,
+    }
+}
+
+// An underflow entry. The answer: where the next goes.
+fn put_underflow(v: u32, e: EntryWidth, out: &mut [u8], at: usize) -> usize
+    requires { ⌜ at + entryBytes e ≤ length (now out) ⌝ }
+    ensures { λ r. ⌜ r ≡ at + entryBytes e ⌝ }
+    ensures { λ _. ⌜ now (out .exit) ≡ over at (tableOf (entryBytes e) (v ∷ [])) (now (out .entry)) ⌝ }
+{
+    match e {
+        EntryWidth::One => {
+            table::put_entry(out, Width::One, at, v);
+            at + 1
+        }
+        EntryWidth::Two => {
+            table::put_entry(out, Width::Two, at, v);
+            at + 2
+        }
+    }
+}
+
+// A value in width 1, with its entries.
+fn put_value1(x: u32, out: &mut [u8], at: Places) -> Places
+    requires { ⌜ ValuesRoom One (x ∷ []) at (length (now out)) ⌝ }
+    ensures { λ r. ⌜ r ≡ placesPast One (x ∷ []) at ⌝ }
+    ensures { λ _. ⌜ now (out .exit) ≡ putValues One (x ∷ []) at (now (out .entry)) ⌝ }
+{
+    let image = at.image + 1;
+    if x < 255 {
+        table::put_entry(out, Width::One, at.image, x);
+        return Places {
+            image,
+            under: at.under,
+            two: at.two,
+            four: at.four,
+        };
+    }
+    table::put_entry(out, Width::Two, at.two, at_most(x, 65535));
+    let two = at.two + 2;
+    if x < 65535 {
+        table::put_entry(out, Width::One, at.image, 255);
+        return Places {
+            image,
+            under: at.under,
+            two,
+            four: at.four,
+        };
+    }
+    table::put_entry(out, Width::Four, at.four, x);
+    table::put_entry(out, Width::One, at.image, 255);
+    Places {
+        image,
+        under: at.under,
+        two,
+        four: at.four + 4,
+    }
+}
+
+// The same in width 2.
+fn put_value2(x: u32, out: &mut [u8], at: Places) -> Places
+    requires { ⌜ ValuesRoom Two (x ∷ []) at (length (now out)) ⌝ }
+    ensures { λ r. ⌜ r ≡ placesPast Two (x ∷ []) at ⌝ }
+    ensures { λ _. ⌜ now (out .exit) ≡ putValues Two (x ∷ []) at (now (out .entry)) ⌝ }
+{
+    let image = at.image + 2;
+    if x < 65535 {
+        table::put_entry(out, Width::Two, at.image, x);
+        return Places {
+            image,
+            under: at.under,
+            two: at.two,
+            four: at.four,
+        };
+    }
+    table::put_entry(out, Width::Four, at.four, x);
+    table::put_entry(out, Width::Two, at.image, 65535);
+    Places {
+        image,
+        under: at.under,
+        two: at.two,
+        four: at.four + 4,
+    }
+}
+
+// The same in width 4, where no value has an entry.
+fn put_value4(x: u32, out: &mut [u8], at: Places) -> Places
+    requires { ⌜ ValuesRoom Four (x ∷ []) at (length (now out)) ⌝ }
+    ensures { λ r. ⌜ r ≡ placesPast Four (x ∷ []) at ⌝ }
+    ensures { λ _. ⌜ now (out .exit) ≡ putValues Four (x ∷ []) at (now (out .entry)) ⌝ }
+{
+    table::put_entry(out, Width::Four, at.image, x);
+    Places {
+        image: at.image + 4,
+        under: at.under,
+        two: at.two,
+        four: at.four,
+    }
+}
+
+// A value, with its entries.
+fn put_value(x: u32, w: Width, out: &mut [u8], at: Places) -> Places
+    requires { ⌜ ValuesRoom w (x ∷ []) at (length (now out)) ⌝ }
+    ensures { λ r. ⌜ r ≡ placesPast w (x ∷ []) at ⌝ }
+    ensures { λ _. ⌜ now (out .exit) ≡ putValues w (x ∷ []) at (now (out .entry)) ⌝ }
+{
+    match w {
+        Width::One => put_value1(x, out, at),
+        Width::Two => put_value2(x, out, at),
+        Width::Four => put_value4(x, out, at),
+    }
+}
+
+// One pixel: its entries and its stored value.
+fn put_pixel(v: u32, form: Form, base: u32, out: &mut [u8], at: Places) -> Places
+    requires { ⌜ (base ≡ usedBase (form .underflow) base) × Room form (storedFor form base (v ∷ [])) at (length (now out)) ⌝ }
+    ensures { λ r. ⌜ r ≡ placesAfter form (storedFor form base (v ∷ [])) at ⌝ }
+    ensures { λ _. ⌜ now (out .exit) ≡ putBlock form (storedFor form base (v ∷ [])) at (now (out .entry)) ⌝ }
+{
+    let u = form.underflow;
+    let w = form.width;
+    let Underflow::Subtracted(e) = u else {
+        return put_value(v, w, out, at);
+    };
+    if base < v {
+        return put_value(v - base, w, out, at);
+    }
+    let under = put_underflow(v, e, out, at.under);
+    let t = Places {
+        image: at.image,
+        under,
+        two: at.two,
+        four: at.four,
+    };
+    put_value(0, w, out, t)
+}
+
+// The end of the pixels that are looked at for a run from p on: 512 of them, or what is left.
+fn run_limit(p: usize, n: usize) -> usize
+    requires { ⌜ p ≤ n ⌝ }
+    ensures { λ r. ⌜ (p ≤ r) × (r ≤ n) ⌝ }
+{
+    if 512 < n - p { p + 512 } else { n }
+}
+
+// All pixels: runs with no entry, and each other pixel by itself. A run ends after 512 pixels at the latest, so that it is still in the cache when it is stored.
+fn store_runs(pixels: &[u32], form: Form, base: u32, out: &mut [u8], at: Places)
+    requires { ⌜ (base ≡ usedBase (form .underflow) base) × (at ≡ placesFor (at .image) form (storedFor form base (now pixels))) × (frameLength (at .image) form (storedFor form base (now pixels)) ≤ length (now out)) × (drop (at .image + length (storedFor form base (now pixels) .image) * widthBytes (form .width)) (now out) ≡ zeros (length (now out) - (at .image + length (storedFor form base (now pixels) .image) * widthBytes (form .width)))) × (base ≤ 65535) ⌝ }
+    ensures { λ _. ⌜ now (out .exit) ≡ take (at .image) (now (out .entry)) ++ (bodyBytes form (storedFor form base (now (pixels .entry))) ++ zeros (length (now (out .entry)) - frameLength (at .image) form (storedFor form base (now (pixels .entry))))) ⌝ }
+{
+    let k = plain_range(form, base);
+    let n = pixels.len();
+    let mut t = at;
+    let mut p = 0;
+    loop {
+        let end = run_limit(p, n);
+        let q = next_outside(&pixels[..end], p, k);
+        t = put_plain(&pixels[p..q], form, base, out, t);
+        if q == n {
+            break;
+        }
+        t = put_pixel(pixels[q], form, base, out, t);
+        p = q + 1;
+    }
+}
+
+// Entries for one pixel in 16 at most.
+fn has_few(c: Counts, n: usize) -> bool {
+    c.under as usize + c.two as usize + c.four as usize <= n / 16
 }
 
 // The last k digits of n at the front of out, with no zeros at the left. The answer: how many.
@@ -843,13 +1134,32 @@ fn is_plain(form: Form) -> bool
     }
 }
 
+// The counts of all pixels. Width 4 with kind none has no entries.
+fn count_pixels(pixels: &[u32], form: Form, base: u32) -> Counts
+    requires { ⌜ (length (now pixels) < 2 ^ 32) × (base ≤ 65535) ⌝ }
+    ensures { λ r. ⌜ r ≡ countsFor form (countsOf base (now (pixels .entry))) ⌝ }
+{
+    if is_plain(form) {
+        return Counts {
+            under: 0,
+            two: 0,
+            four: 0,
+        };
+    }
+    count_blocks(pixels, form, base)
+}
+
 // All pixels, in a buffer that is zero behind the image.
-fn store_pixels(pixels: &[u32], form: Form, base: u32, out: &mut [u8], at: Places)
-    requires { ⌜ (base ≡ usedBase (form .underflow) base) × (at ≡ placesFor (at .image) form (storedFor form base (now pixels))) × (frameLength (at .image) form (storedFor form base (now pixels)) ≤ length (now out)) × (drop (at .image + length (storedFor form base (now pixels) .image) * widthBytes (form .width)) (now out) ≡ zeros (length (now out) - (at .image + length (storedFor form base (now pixels) .image) * widthBytes (form .width)))) ⌝ }
+fn store_pixels(pixels: &[u32], form: Form, base: u32, c: Counts, out: &mut [u8], at: Places)
+    requires { ⌜ (base ≡ usedBase (form .underflow) base) × (at ≡ placesFor (at .image) form (storedFor form base (now pixels))) × (frameLength (at .image) form (storedFor form base (now pixels)) ≤ length (now out)) × (drop (at .image + length (storedFor form base (now pixels) .image) * widthBytes (form .width)) (now out) ≡ zeros (length (now out) - (at .image + length (storedFor form base (now pixels) .image) * widthBytes (form .width)))) × (base ≤ 65535) ⌝ }
     ensures { λ _. ⌜ now (out .exit) ≡ take (at .image) (now (out .entry)) ++ (bodyBytes form (storedFor form base (now (pixels .entry))) ++ zeros (length (now (out .entry)) - frameLength (at .image) form (storedFor form base (now (pixels .entry))))) ⌝ }
 {
     if is_plain(form) {
         store_four(pixels, out, at);
+        return;
+    }
+    if has_few(c, pixels.len()) {
+        store_runs(pixels, form, base, out, at);
         return;
     }
     let mut low = [0u32; 64];
@@ -868,13 +1178,13 @@ fn store_frame(
     at: Places,
     out: &mut [u8],
 )
-    requires { ⌜ (3200 ≤ length (now header)) × (base ≡ usedBase (form .underflow) base) × (c ≡ storedCounts (storedFor form base (now pixels))) × (at ≡ placesFor (length (now header)) form (storedFor form base (now pixels))) × (frameLength (length (now header)) form (storedFor form base (now pixels)) ≤ length (now out)) ⌝ }
+    requires { ⌜ (3200 ≤ length (now header)) × (base ≡ usedBase (form .underflow) base) × (c ≡ storedCounts (storedFor form base (now pixels))) × (at ≡ placesFor (length (now header)) form (storedFor form base (now pixels))) × (frameLength (length (now header)) form (storedFor form base (now pixels)) ≤ length (now out)) × (base ≤ 65535) ⌝ }
     ensures { λ _. ⌜ now (out .exit) ≡ heldBytes (length (now (out .entry))) (frameBytes (now (header .entry)) form (storedFor form base (now (pixels .entry)))) ⌝ }
 {
     let start = at.image;
     let end = at.under;
     table::fill(&mut out[end..], 0);
-    store_pixels(pixels, form, base, out, at);
+    store_pixels(pixels, form, base, c, out, at);
     put_header(header, form, c, &mut out[..start]);
 }
 
@@ -888,7 +1198,7 @@ fn write_form(header: &[u8], form: Form, base: u32, pixels: &[u32], out: &mut [u
     if underflow_too_large(u, pixels, base) {
         return WriteAnswer::Refused(Refusal::UnderflowTooLarge);
     }
-    let c = count_blocks(pixels, form, base);
+    let c = count_pixels(pixels, form, base);
     let at = places_for(header.len(), pixels.len(), form, c);
     let end = at.four + padded_bytes(Width::Four, c.four);
     if out.len() < end {

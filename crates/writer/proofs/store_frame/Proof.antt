@@ -24,7 +24,7 @@ fill-requires c κs = search needs
 store-pixels-requires : tie.Need-store-pixels-requires
 store-pixels-requires c κs =
     let k = inside _ _ _ _ _ (c .before .before .before .before .before .before .before .before .pre .3) (c .before .before .before .before .before .before .before .before .pre .4) in
-    (c .before .before .before .before .before .before .before .before .pre .1, self-placed (length (c .before .before .before .before .before .before .before .before .args .header .now)) (c .before .before .before .before .before .before .before .before .args .form) (storedFor (c .before .before .before .before .before .before .before .before .args .form) (c .before .before .before .before .before .before .before .before .args .base) (c .before .before .before .before .before .before .before .before .args .pixels .now)) (c .before .before .before .before .before .before .before .before .args .at) (c .before .before .before .before .before .before .before .before .pre .3) (k .image), rw (k .image, cleared-length (c .before .before .before .before .before .before .before .before .args .out .now) (c .before .before .before .fill .last .0) (c .before .before .before .before .before .before .before .before .args .at .under) (k .reach) (c .before .before .before .fill .ensures)) (c .before .before .before .before .before .before .before .before .pre .4), blocks-ready _ _ _ _ _ _ k (c .before .before .before .fill .ensures))
+    (c .before .before .before .before .before .before .before .before .pre .1, self-placed (length (c .before .before .before .before .before .before .before .before .args .header .now)) (c .before .before .before .before .before .before .before .before .args .form) (storedFor (c .before .before .before .before .before .before .before .before .args .form) (c .before .before .before .before .before .before .before .before .args .base) (c .before .before .before .before .before .before .before .before .args .pixels .now)) (c .before .before .before .before .before .before .before .before .args .at) (c .before .before .before .before .before .before .before .before .pre .3) (k .image), rw (k .image, cleared-length (c .before .before .before .before .before .before .before .before .args .out .now) (c .before .before .before .fill .last .0) (c .before .before .before .before .before .before .before .before .args .at .under) (k .reach) (c .before .before .before .fill .ensures)) (c .before .before .before .before .before .before .before .before .pre .4), blocks-ready _ _ _ _ _ _ k (c .before .before .before .fill .ensures), c .before .before .before .before .before .before .before .before .pre .5)
 
 slice-relend-prefix-put-header : tie.Need-slice-relend-prefix-put-header
 slice-relend-prefix-put-header c = let k = inside _ _ _ _ _ (c .before .before .before .before .before .before .before .before .before .before .before .pre .3) (c .before .before .before .before .before .before .before .before .before .before .before .pre .4) in omega (arith, k .reach, k .image, k .under)

@@ -13,8 +13,8 @@ underflow-too-large-requires c κs = search needs
 returns : tie.Need-returns
 returns c = let t = large-is (c .before .before .before .before .before .args .form) (c .before .before .before .before .before .args .base) (c .before .before .before .before .before .args .pixels .now) (c .before .underflow-too-large .result) true (c .before .underflow-too-large .ensures) (c .if1 .taken) in (rw t, rw t)
 
-count-blocks-requires : tie.Need-count-blocks-requires
-count-blocks-requires c κs = search needs
+count-pixels-requires : tie.Need-count-pixels-requires
+count-pixels-requires c κs = search needs
 
 places-for-requires : tie.Need-places-for-requires
 places-for-requires c κs = search needs
@@ -28,14 +28,14 @@ add-end c = search needs
 returns-2 : tie.Need-returns-2
 returns-2 c =
     let t = large-is (c .before .before .before .before .before .before .before .before .before .before .args .form) (c .before .before .before .before .before .before .before .before .before .before .args .base) (c .before .before .before .before .before .before .before .before .before .before .args .pixels .now) (c .before .before .before .before .before .before .underflow-too-large .result) false (c .before .before .before .before .before .before .underflow-too-large .ensures) (c .before .before .before .before .before .if1 .left) in
-    let j = judged (c .before .before .before .before .before .before .before .before .before .before .args .header .now) (c .before .before .before .before .before .before .before .before .before .before .args .form) (c .before .before .before .before .before .before .before .before .before .before .args .base) (c .before .before .before .before .before .before .before .before .before .before .args .pixels .now) (c .before .before .before .before .count-blocks .result) (c .before .before .before .places-for .result) (c .before .before .padded-bytes .result) (c .before .before .before .before .before .before .before .before .before .before .pre .0 .long) (c .before .before .before .before .before .before .before .before .before .before .pre .1) (c .before .before .before .before .count-blocks .ensures) (c .before .before .before .places-for .ensures .0) (c .before .before .padded-bytes .ensures .0) in
+    let j = judged (c .before .before .before .before .before .before .before .before .before .before .args .header .now) (c .before .before .before .before .before .before .before .before .before .before .args .form) (c .before .before .before .before .before .before .before .before .before .before .args .base) (c .before .before .before .before .before .before .before .before .before .before .args .pixels .now) (c .before .before .before .before .count-pixels .result) (c .before .before .before .places-for .result) (c .before .before .padded-bytes .result) (c .before .before .before .before .before .before .before .before .before .before .pre .0 .long) (c .before .before .before .before .before .before .before .before .before .before .pre .1) (c .before .before .before .before .count-pixels .ensures) (c .before .before .before .places-for .ensures .0) (c .before .before .padded-bytes .ensures .0) in
     let o = lt-ltb _ _ (rw (j .end) at (c .if2 .taken)) in
     (rw (t, o), rw (t, o))
 
 store-frame-requires : tie.Need-store-frame-requires
 store-frame-requires c κs =
-    let j = judged (c .before .before .before .before .before .before .before .before .before .before .before .args .header .now) (c .before .before .before .before .before .before .before .before .before .before .before .args .form) (c .before .before .before .before .before .before .before .before .before .before .before .args .base) (c .before .before .before .before .before .before .before .before .before .before .before .args .pixels .now) (c .before .before .before .before .before .count-blocks .result) (c .before .before .before .before .places-for .result) (c .before .before .before .padded-bytes .result) (c .before .before .before .before .before .before .before .before .before .before .before .pre .0 .long) (c .before .before .before .before .before .before .before .before .before .before .before .pre .1) (c .before .before .before .before .before .count-blocks .ensures) (c .before .before .before .before .places-for .ensures .0) (c .before .before .before .padded-bytes .ensures .0) in
-    (c .before .before .before .before .before .before .before .before .before .before .before .pre .0 .long, c .before .before .before .before .before .before .before .before .before .before .before .pre .1, j .counts, j .places, rw (← j .whole) (c .before .if2 .left))
+    let j = judged (c .before .before .before .before .before .before .before .before .before .before .before .args .header .now) (c .before .before .before .before .before .before .before .before .before .before .before .args .form) (c .before .before .before .before .before .before .before .before .before .before .before .args .base) (c .before .before .before .before .before .before .before .before .before .before .before .args .pixels .now) (c .before .before .before .before .before .count-pixels .result) (c .before .before .before .before .places-for .result) (c .before .before .before .padded-bytes .result) (c .before .before .before .before .before .before .before .before .before .before .before .pre .0 .long) (c .before .before .before .before .before .before .before .before .before .before .before .pre .1) (c .before .before .before .before .before .count-pixels .ensures) (c .before .before .before .before .places-for .ensures .0) (c .before .before .before .padded-bytes .ensures .0) in
+    (c .before .before .before .before .before .before .before .before .before .before .before .pre .0 .long, c .before .before .before .before .before .before .before .before .before .before .before .pre .1, j .counts, j .places, rw (← j .whole) (c .before .if2 .left), c .before .before .before .before .before .before .before .before .before .before .before .pre .0 .low)
 
 same-length : tie.Need-same-length
 same-length c = search needs
@@ -43,7 +43,7 @@ same-length c = search needs
 returns-3 : tie.Need-returns-3
 returns-3 c =
     let t = large-is (c .before .before .before .before .before .before .before .before .before .before .before .before .before .before .args .form) (c .before .before .before .before .before .before .before .before .before .before .before .before .before .before .args .base) (c .before .before .before .before .before .before .before .before .before .before .before .before .before .before .args .pixels .now) (c .before .before .before .before .before .before .before .before .before .before .underflow-too-large .result) false (c .before .before .before .before .before .before .before .before .before .before .underflow-too-large .ensures) (c .before .before .before .before .before .before .before .before .before .if1 .left) in
-    let j = judged (c .before .before .before .before .before .before .before .before .before .before .before .before .before .before .args .header .now) (c .before .before .before .before .before .before .before .before .before .before .before .before .before .before .args .form) (c .before .before .before .before .before .before .before .before .before .before .before .before .before .before .args .base) (c .before .before .before .before .before .before .before .before .before .before .before .before .before .before .args .pixels .now) (c .before .before .before .before .before .before .before .before .count-blocks .result) (c .before .before .before .before .before .before .before .places-for .result) (c .before .before .before .before .before .before .padded-bytes .result) (c .before .before .before .before .before .before .before .before .before .before .before .before .before .before .pre .0 .long) (c .before .before .before .before .before .before .before .before .before .before .before .before .before .before .pre .1) (c .before .before .before .before .before .before .before .before .count-blocks .ensures) (c .before .before .before .before .before .before .before .places-for .ensures .0) (c .before .before .before .before .before .before .padded-bytes .ensures .0) in
+    let j = judged (c .before .before .before .before .before .before .before .before .before .before .before .before .before .before .args .header .now) (c .before .before .before .before .before .before .before .before .before .before .before .before .before .before .args .form) (c .before .before .before .before .before .before .before .before .before .before .before .before .before .before .args .base) (c .before .before .before .before .before .before .before .before .before .before .before .before .before .before .args .pixels .now) (c .before .before .before .before .before .before .before .before .count-pixels .result) (c .before .before .before .before .before .before .before .places-for .result) (c .before .before .before .before .before .before .padded-bytes .result) (c .before .before .before .before .before .before .before .before .before .before .before .before .before .before .pre .0 .long) (c .before .before .before .before .before .before .before .before .before .before .before .before .before .before .pre .1) (c .before .before .before .before .before .before .before .before .count-pixels .ensures) (c .before .before .before .before .before .before .before .places-for .ensures .0) (c .before .before .before .before .before .before .padded-bytes .ensures .0) in
     let o = le-ltb _ _ (rw (j .end) at (c .before .before .before .before .if2 .left)) in
     (rw (t, o) (ap Written (j .end)), rw (t, o) (c .before .before .store-frame .ensures))
 
@@ -53,7 +53,7 @@ write-form-spec =
     (tie.spec
     underflow-too-large-requires
     returns
-    count-blocks-requires
+    count-pixels-requires
     places-for-requires
     padded-bytes-requires
     add-end
