@@ -1,6 +1,7 @@
 #!/usr/bin/env python3
 """Rows for crates/writer_trials and what the program must print for them, by document 01's rules and without the proved code.
 tools/writer_rows.py stdin|stdout"""
+import itertools
 import re
 import sys
 
@@ -106,6 +107,12 @@ def expanded(text):
     return [int(v) for token in text.split(" ") if token for v in [token.split("x")[0]] * int((token + "x1").split("x")[1])]
 
 
+def packed(pixels):
+    """The pixels as a row has them: 40x3 for 40 40 40."""
+    runs = [(p, len(list(same))) for p, same in itertools.groupby(pixels)]
+    return " ".join(f"{p}x{n}" if n > 1 else str(p) for p, n in runs)
+
+
 def row(pixels, form, columns=None, rows=1, base=32, noverfl="1 2 1", npixelb="1 1", blocks=15, given=None, room=None, more=0, **other):
     """A row; room is what the frame needs and `more` bytes, unless it is said."""
     lines = [other.get("format", "100"), other.get("version", "11"), str(blocks), noverfl, npixelb, str(rows)]
@@ -153,6 +160,13 @@ def rows():
     yield row("30 300x62 70000 70000 31x64 65566 65567 40x66", "1 2", rows=14, columns=14)
     yield row("4294967295x256", "1 1", rows=16, columns=16)
     yield row("1x256", "2 2", rows=16, columns=16)
+    yield "# many pixels with few entries: runs that end at an entry, after 512 pixels, and at the last pixel"
+    few = {0: 30, 15: 287, 16: 286, 17: 70000, 511: 32, 512: 65567, 513: 65566, 529: 4294967295}
+    yield from (row(packed([few.get(k, 40) for k in range(530)]), f) for f in FORMS)
+    yield "# as many entries as a sixteenth of the pixels, and one more"
+    for n in (33, 34):
+        spread = set(range(0, 16 * 33, 16)) | set(range(529, 529 + n - 33))
+        yield from (row(packed([p if k in spread else 33 for k in range(530)]), f) for p, f in ((32, "1 1"), (300, "1 0"), (70000, "2 0"), (0, "4 2")))
     yield "# a header that has -1, one with no underflow width, one with counts of its own"
     for noverfl, npixelb in (("-1 0 0", "1 0"), ("-1 9 9", "4 2"), ("0 0 0", "2 0"), ("4294967295 1 1", "2 2")):
         yield from (row(example, f, noverfl=noverfl, npixelb=npixelb) for f in ("1 0", "1 1", "2 2"))

@@ -296,7 +296,7 @@ fn show_bytes(bytes: &[u8]) {
 fn reads_back(out: &[u8], end: usize, image: Image, pixels: &[u32], asked: AskedForm) -> bool
     requires { ⌜ end ≤ length (now out) ⌝ }
 {
-    let mut back = [9u32; 256];
+    let mut back = [9u32; 640];
     let ReadAnswer::Frame {
         rows,
         columns,
@@ -305,7 +305,7 @@ fn reads_back(out: &[u8], end: usize, image: Image, pixels: &[u32], asked: Asked
     else {
         return false;
     };
-    let n = least(layout::pixel_count(image), least(256, pixels.len()));
+    let n = least(layout::pixel_count(image), least(640, pixels.len()));
     if rows != image.rows || columns != image.columns || last != end as u64 {
         return false;
     }
@@ -377,7 +377,7 @@ fn run(row: &[u8]) {
     let mut header = [b' '; 8192];
     put_lines(&mut header, row);
     let given = least(value(cell(row, 0)) as usize, 8192);
-    let mut pixels = [0u32; 256];
+    let mut pixels = [0u32; 640];
     let n = put_pixels(&mut pixels, cell(row, 12));
     let room = least(value(cell(row, 11)) as usize, 16384);
     let mut out = [170u8; 16384];
