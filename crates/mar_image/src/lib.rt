@@ -77,7 +77,7 @@ fn load_part(image: &[u8], order: ByteOrder, p: usize, e: usize, pixels: &mut [u
     byte_order::load16(&image[at..], order, &mut pixels[p..e]);
 }
 
-// The stored image, its two halves side by side, 64 pixels of each in turn: memory is faster in two streams than in one.
+// The stored image, its two halves side by side, 256 pixels of each in turn: memory is faster in two streams than in one.
 fn load_image(image: &[u8], order: ByteOrder, pixels: &mut [u32])
     requires { ⌜ length (now pixels) * 2 ≤ length (now image) ⌝ }
     ensures { λ _. ⌜ now (pixels .exit) ≡ numbers order 2 (length (now (pixels .entry))) (now (image .entry)) ⌝ }
@@ -85,8 +85,8 @@ fn load_image(image: &[u8], order: ByteOrder, pixels: &mut [u32])
     let n = pixels.len();
     let half = n / 2;
     let mut p = 0;
-    while p + 64 <= half {
-        let e = p + 64;
+    while p + 256 <= half {
+        let e = p + 256;
         load_part(image, order, p, e, pixels);
         load_part(image, order, half + p, half + e, pixels);
         p = e;
