@@ -2,13 +2,13 @@
 -- Assumes nothing.
 use mathlib.Core.Path.{_≡_, refl, sym, ap, _∙_}
 use mathlib.Core.Bool.{Bool, true, false, _||_}
-use mathlib.Core.List.{List, [], _∷_, _++_, map}
-use Prim.Native.Nat.{ℕ, zero, suc, _+_, _*_, _-_, _%_, _≤_, _<_}
+use mathlib.Core.List.{List, [], _∷_, map}
+use Prim.Native.Nat.{ℕ, _+_, _*_, _-_, _%_, _≤_, _<_}
 use native.Mathlib.Nat.{zero-mul, add-zero}
 use native.Mathlib.Omega.{arith}
-use lib.ListN.{length, take, drop, getD, length-take, length-drop, length-map}
+use lib.ListN.{length, take, drop, getD, length-take, length-map}
 use lib.Seq.{drop-drop, drop-cons, take-take, take-all}
-use lib.Dec.{leb, ltb}
+use lib.Dec.{ltb}
 use borrow.Author.Tests.{lt-leb, lt-ltb, le-ltb, ltb-true, ltb-false}
 use Rattle.lists.specs.Choose.{if_then_else_}
 use Rattle.lists.specs.Bytes.{over}
@@ -21,14 +21,14 @@ use Rattle.layout.specs.declared.Form.{Form}
 use Rattle.layout.specs.Form.{widthBytes}
 use Rattle.table.specs.Writing.{tableOf, lessWrapped}
 use Rattle.expand.specs.Steps.{Stored}
-use Rattle.writer.specs.Storing.{only, isUnderflow, lowered, underEntries, twoEntries, fourEntries, storedValue, storedFor}
+use Rattle.writer.specs.Storing.{only, lowered, underEntries, twoEntries, fourEntries, storedValue, storedFor}
 use Rattle.writer.specs.Frame.{underflowBytes}
 use Rattle.writer.specs.Blocks.{Room, usedBase, putBlock, placesAfter, lowestPlain, highestPlain, plainRange, isOutside, Without}
 use Rattle.writer.specs.declared.Places.{Places}
 use Rattle.writer.specs.declared.Range.{Range}
 use Rattle.writer.proofs.Gathering.{only-append, take-split}
 use Rattle.lists.proofs.Over.{over-none}
-use Rattle.writer.proofs.Placing.{stored-append, stored-nil, none, joined}
+use Rattle.writer.proofs.Placing.{stored-append, stored-nil, none}
 
 -- a difference modulo 2 ^ 32 is more than the span just where v is outside
 pub outside-is : (v low span d : ℕ) → (d + low) % 4294967296 ≡ v → d < 4294967296 → low + span < 4294967296 → ltb span d ≡ (ltb v low || ltb (low + span) v)
