@@ -3,8 +3,8 @@
 use mathlib.Core.Path.{_≡_, refl, sym, ap, _∙_}
 use mathlib.Core.Bool.{Bool, true, false}
 use mathlib.Core.List.{List, [], _∷_, _++_, map, append-nil}
-use Prim.Native.Nat.{ℕ, zero, suc, _+_, _-_, _≤_, _<_}
-use native.Mathlib.Nat.{add-zero, le-of-suc-le-suc, not-suc-le-zero}
+use Prim.Native.Nat.{ℕ, suc, _+_, _-_, _≤_, _<_}
+use native.Mathlib.Nat.{add-zero}
 use native.Mathlib.Numerals.{add-one}
 use native.Mathlib.Omega.{arith}
 use lib.ListN.{length, take, drop, getD, set, length-append, length-set, length-take, length-drop}
@@ -120,11 +120,6 @@ gathering-more {p} {s} {out₀} {out} {k} {i} z f h e = record {
 
 pub gathering-done : {p : ℕ → Bool} {s out₀ out : List ℕ} {k i : ℕ} → Gathering p s out₀ out k i → length s ≤ i → (k ≡ length (only p s)) × (take k out ≡ only p s)
 gathering-done {p} {s} {out₀} {out} {k} {i} f h = (counting-done (f .counts) h, rw (take-all i s h) at (f .is))
-
-pub map-at : (f : ℕ → ℕ) (xs : List ℕ) (i : ℕ) → i < length xs → getD (map f xs) i 0 ≡ f (getD xs i 0)
-map-at f [] i h = absurd (not-suc-le-zero h)
-map-at f (x ∷ xs) zero h = refl
-map-at f (x ∷ xs) (suc i) h = map-at f xs i (le-of-suc-le-suc h)
 
 pub map-four : (xs : List ℕ) → map (storedValue W.Four) xs ≡ xs
 map-four [] = refl

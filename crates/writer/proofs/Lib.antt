@@ -1,8 +1,8 @@
 pub mod Gathering
 pub mod Over
 pub mod Placing
-pub mod Runs
 pub mod Pixel
+pub mod Runs
 pub mod Cells
 pub mod Lines
 pub mod Judging

@@ -28,8 +28,8 @@ use Rattle.writer.specs.Frame.{underflowBytes, bodyBytes, frameLength}
 use Rattle.writer.specs.Blocks.{less, usedBase, isPlain, putBlock, putValues, placesAfter, placesPast, placesBy, placesFor, Room, ValuesRoom}
 use Rattle.writer.specs.declared.Places.{Places}
 use Rattle.writer.proofs.Gathering.{only-append, take-split}
-use Rattle.writer.proofs.Over.{none-put}
-use Rattle.lists.proofs.Over.{over-skip, over-first, over-front, front, length-front}
+use Rattle.writer.proofs.Over.{none-put, four-put}
+use Rattle.lists.proofs.Over.{length-over, over-skip, over-first, over-front, front, length-front}
 
 -- the bytes ys behind xs in a region r, with one to four regions at hand
 region : (a b xs ys r : List ℕ) (at : ℕ) → at ≡ length a + length xs → length xs + length ys ≤ length r
@@ -378,6 +378,11 @@ pub values-are : (w : Width) (low : List ℕ) (at : Places) (out out₁ out₂ o
 unfolding putValues
 values-are w low at out out₁ out₂ out₃ e₁ e₂ e₃ = e₃ ∙ rw (e₂, e₁)
 
+-- width 4 has no entries
+pub four-values : (low : List ℕ) (at : Places) (out out′ : List ℕ) → out′ ≡ over (at .image) (tableOf 4 low) out → out′ ≡ putValues W.Four low at out
+four-values low at out out′ e =
+    values-are W.Four low at out out out out′ (none-put (at .two) 2 [] out refl .1) (none-put (at .four) 4 [] out refl .1) (four-put (at .image) low out out′ e)
+
 -- the same places but for the underflow entries'
 pub record Beside (at at′ : Places) : Type 0 where
   pub image : at′ .image ≡ at .image
@@ -428,7 +433,7 @@ module _ (form : Form) (base : ℕ) (pixels out : List ℕ) (at : Places) (kind 
       room-values form base pixels pixels at at (low-none form base pixels kind) beside (length out) (length out) refl
       (rw here at (storing-room (length pixels) ready (omega arith) fit))
 
-  pub whole-put : (out′ : List ℕ) → length out′ ≡ length out → out′ ≡ putValues (form .width) pixels at out
+  whole-put : (out′ : List ℕ) → length out′ ≡ length out → out′ ≡ putValues (form .width) pixels at out
       → out′ ≡ take (at .image) out ++ (bodyBytes form (storedFor form base pixels) ++ zeros (length out - frameLength (at .image) form (storedFor form base pixels)))
   whole-put out′ l e =
       let p : out′ ≡ putBlock form (storedFor form base pixels) at out
@@ -437,3 +442,8 @@ module _ (form : Form) (base : ℕ) (pixels out : List ℕ) (at : Places) (kind 
       (storing-more (length pixels) (placesAfter form (storedFor form base pixels) at) out′ ready (omega arith) (omega arith) fit l (rw here) (rw here p))
       (omega arith)
       fit
+
+  -- in width 4 the image is all
+  pub whole-four : (out′ : List ℕ) → form .width ≡ W.Four → at .image + length pixels * 4 ≤ length out → out′ ≡ over (at .image) (tableOf 4 pixels) out
+      → out′ ≡ take (at .image) out ++ (bodyBytes form (storedFor form base pixels) ++ zeros (length out - frameLength (at .image) form (storedFor form base pixels)))
+  whole-four out′ w h e = whole-put out′ (ap length e ∙ length-over (at .image) (tableOf 4 pixels) out (rw length-table h)) (rw w (four-values pixels at out out′ e))

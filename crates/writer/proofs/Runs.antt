@@ -2,13 +2,13 @@
 -- Assumes nothing.
 use mathlib.Core.Path.{_≡_, refl, sym, ap, _∙_}
 use mathlib.Core.Bool.{Bool, true, false, _||_}
-use mathlib.Core.List.{List, [], _∷_, _++_, map}
-use Prim.Native.Nat.{ℕ, zero, suc, _+_, _*_, _-_, _%_, _≤_, _<_}
+use mathlib.Core.List.{List, [], _∷_, map}
+use Prim.Native.Nat.{ℕ, _+_, _*_, _-_, _%_, _≤_, _<_}
 use native.Mathlib.Nat.{zero-mul, add-zero}
 use native.Mathlib.Omega.{arith}
-use lib.ListN.{length, take, drop, getD, length-take, length-drop, length-map}
+use lib.ListN.{length, take, drop, getD, length-take, length-map}
 use lib.Seq.{drop-drop, drop-cons, take-take, take-all}
-use lib.Dec.{leb, ltb}
+use lib.Dec.{ltb}
 use borrow.Author.Tests.{lt-leb, lt-ltb, le-ltb, ltb-true, ltb-false}
 use Rattle.lists.specs.Choose.{if_then_else_}
 use Rattle.lists.specs.Bytes.{over}
@@ -21,14 +21,15 @@ use Rattle.layout.specs.declared.Form.{Form}
 use Rattle.layout.specs.Form.{widthBytes}
 use Rattle.table.specs.Writing.{tableOf, lessWrapped}
 use Rattle.expand.specs.Steps.{Stored}
-use Rattle.writer.specs.Storing.{only, isUnderflow, lowered, underEntries, twoEntries, fourEntries, storedValue, storedFor}
+use Rattle.writer.specs.Storing.{only, lowered, underEntries, storedFor}
 use Rattle.writer.specs.Frame.{underflowBytes}
 use Rattle.writer.specs.Blocks.{Room, usedBase, putBlock, placesAfter, lowestPlain, highestPlain, plainRange, isOutside, Without}
 use Rattle.writer.specs.declared.Places.{Places}
 use Rattle.writer.specs.declared.Range.{Range}
 use Rattle.writer.proofs.Gathering.{only-append, take-split}
 use Rattle.lists.proofs.Over.{over-none}
-use Rattle.writer.proofs.Placing.{stored-append, stored-nil, none, joined}
+use Rattle.writer.proofs.Placing.{stored-append, stored-nil, none}
+use Rattle.writer.proofs.Pixel.{Value, one-small, two-small, four-any}
 
 -- a difference modulo 2 ^ 32 is more than the span just where v is outside
 pub outside-is : (v low span d : ℕ) → (d + low) % 4294967296 ≡ v → d < 4294967296 → low + span < 4294967296 → ltb span d ≡ (ltb v low || ltb (low + span) v)
@@ -106,15 +107,15 @@ looking-miss a h e = record { upto = omega arith; none = λ g. without-one (a .n
 pub looking-done : {f : ℕ → Bool} {s : List ℕ} {found : Bool} {i : ℕ} → Looking f s found i → length s ≤ i → found ≡ false → Without f s 0 (length s)
 looking-done {f} {s} {found} {i} a h e = let n : i ≡ length s = omega (arith, a .upto) in rw n at (a .none e)
 
--- One pixel that is not outside.
-module _ (base x : ℕ) where
-  inside : (k : Range) → isOutside k x ≡ false → (k .low ≤ x) × (x ≤ k .low + k .span)
-  inside k e = go (ltb x (k .low)) refl e
-    where
-      go : (t : Bool) → ltb x (k .low) ≡ t → (t || ltb (k .low + k .span) x) ≡ false → (k .low ≤ x) × (x ≤ k .low + k .span)
-      go true p q = absurd (let z : _≡_ {A = Bool} true false = q in let y : _≡_ {A = ℕ} 0 1 = cc in omega arith)
-      go false p q = (ltb-false x (k .low) p, ltb-false (k .low + k .span) x q)
+inside : (x : ℕ) (k : Range) → isOutside k x ≡ false → (k .low ≤ x) × (x ≤ k .low + k .span)
+inside x k e = go (ltb x (k .low)) refl e
+  where
+    go : (t : Bool) → ltb x (k .low) ≡ t → (t || ltb (k .low + k .span) x) ≡ false → (k .low ≤ x) × (x ≤ k .low + k .span)
+    go true p q = absurd (let z : _≡_ {A = Bool} true false = q in let y : _≡_ {A = ℕ} 0 1 = cc in omega arith)
+    go false p q = (ltb-false x (k .low) p, ltb-false (k .low + k .span) x q)
 
+-- A pixel that the kind stores with no entry.
+module _ (base x : ℕ) where
   one-under : (u : Underflow) → lowestPlain u base ≤ x → underEntries u base (x ∷ []) ≡ []
   unfolding only
   one-under U.None h = refl
@@ -124,22 +125,11 @@ module _ (base x : ℕ) where
   one-low U.None e h = (omega arith, omega arith)
   one-low (U.Subtracted k) e h = (rw (lt-leb x base (omega arith)), omega arith)
 
-  one-two : (w : Width) (y : ℕ) → y + base ≤ highestPlain w base → twoEntries w (y ∷ []) ≡ []
-  unfolding only
-  one-two W.One y h = rw (lt-leb 255 y (omega arith))
-  one-two W.Two y h = refl
-  one-two W.Four y h = refl
-
-  one-four : (w : Width) (y : ℕ) → y + base ≤ highestPlain w base → fourEntries w (y ∷ []) ≡ []
-  unfolding only
-  one-four W.One y h = rw (lt-leb 65535 y (omega arith))
-  one-four W.Two y h = rw (lt-leb 65535 y (omega arith))
-  one-four W.Four y h = refl
-
-  one-image : (w : Width) (y : ℕ) → y + base ≤ highestPlain w base → storedValue w y ≡ y
-  one-image W.One y h = rw (lt-leb 255 y (omega arith))
-  one-image W.Two y h = rw (lt-leb 65535 y (omega arith))
-  one-image W.Four y h = refl
+-- a value that a width stores with no entry
+plain-value : (w : Width) (base y : ℕ) → y + base ≤ highestPlain w base → Value w y y [] []
+plain-value W.One base y h = one-small y (omega arith)
+plain-value W.Two base y h = two-small y (omega arith)
+plain-value W.Four base y h = four-any y
 
 -- a run in values: an image and no entry
 abbrev pub plainStored : ℕ → List ℕ → Stored
@@ -150,11 +140,11 @@ module _ (form : Form) (base : ℕ) (used : base ≡ usedBase (form .underflow) 
   unfolding storedFor
   one-plain x e =
       let r = range-fits form base low in
-      let i = inside base x (plainRange form base) e in
+      let i = inside x (plainRange form base) e in
       let l = one-low base x (form .underflow) used (i .0) in
-      let h : (x - base) + base ≤ highestPlain (form .width) base = omega (arith, i .1, r .0, l .1) in
+      let v = plain-value (form .width) base (x - base) (omega (arith, i .1, r .0, l .1)) in
       let d : x - base ≡ lessWrapped base x = omega (arith, i .1, r .0, r .1, l .1) in
-      rw (one-under base x (form .underflow) (i .0), l .0, one-two base x (form .width) (x - base) h, one-four base x (form .width) (x - base) h, one-image base x (form .width) (x - base) h, d)
+      rw (one-under base x (form .underflow) (i .0), l .0, v .two-is, v .four-is, v .image-is, d)
 
   first-plain : (x : ℕ) (xs : List ℕ) (t : Bool) → isOutside (plainRange form base) x ≡ t → if_then_else_ t (x ∷ only (isOutside (plainRange form base)) xs) (only (isOutside (plainRange form base)) xs) ≡ []
       → (isOutside (plainRange form base) x ≡ false) × (only (isOutside (plainRange form base)) xs ≡ [])

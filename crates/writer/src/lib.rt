@@ -1155,7 +1155,9 @@ fn store_pixels(pixels: &[u32], form: Form, base: u32, c: Counts, out: &mut [u8]
     ensures { λ _. ⌜ now (out .exit) ≡ take (at .image) (now (out .entry)) ++ (bodyBytes form (storedFor form base (now (pixels .entry))) ++ zeros (length (now (out .entry)) - frameLength (at .image) form (storedFor form base (now (pixels .entry))))) ⌝ }
 {
     if is_plain(form) {
-        store_four(pixels, out, at);
+        let from = at.image;
+        let end = from + pixels.len() * 4;
+        table::store_halves(pixels, Width::Four, &mut out[from..end]);
         return;
     }
     if has_few(c, pixels.len()) {

@@ -7,7 +7,8 @@ use lib.ListN.{length, length-map}
 use Rattle.lists.proofs.Writing.{Writing, writing-start, writing-more, writing-whole}
 use Rattle.writer.specs.Storing.{isUnderflow}
 use Rattle.writer.specs.Blocks.{less}
-use Rattle.writer.proofs.Gathering.{map-at, Counting, counting-start, counting-more, counting-done, one-at-most}
+use Rattle.lists.proofs.Parts.{map-at}
+use Rattle.writer.proofs.Gathering.{Counting, counting-start, counting-more, counting-done, one-at-most}
 use Rattle.writer.proofs.lower.Statement.{statement}
 use Rattle.writer.proofs.lower.Tie as tie
 

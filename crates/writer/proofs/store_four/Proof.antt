@@ -1,8 +1,7 @@
-use mathlib.Core.Path.{refl, _∙_}
-use native.Mathlib.Omega.{arith}
+use mathlib.Core.Path.{refl}
 use Rattle.layout.specs.declared.Width.the-variants as W
-use Rattle.writer.proofs.Over.{none-put, four-put}
-use Rattle.writer.proofs.Placing.{past-is, values-are}
+use Rattle.writer.proofs.Over.{none-put}
+use Rattle.writer.proofs.Placing.{past-is, four-values}
 use borrow.Author.Needs.{needs}
 use Rattle.writer.proofs.store_four.Statement.{statement}
 use Rattle.writer.proofs.store_four.Tie as tie
@@ -20,7 +19,7 @@ same-length : tie.Need-same-length
 same-length c = search needs
 
 returns : tie.Need-returns
-returns c = (past-is W.Four _ _ _ _ _ refl (none-put _ 2 _ (c .before .before .before .before .before .before .before .args .out .now) refl .0) (none-put _ 4 _ (c .before .before .before .before .before .before .before .args .out .now) refl .0), values-are W.Four _ _ _ _ _ _ (none-put _ 2 _ (c .before .before .before .before .before .before .before .args .out .now) refl .1) (none-put _ 4 _ (c .before .before .before .before .before .before .before .args .out .now) refl .1) (four-put _ _ _ _ (c .before .before .put .ensures)))
+returns c = (past-is W.Four _ _ _ _ _ refl (none-put _ 2 _ (c .before .before .before .before .before .before .before .args .out .now) refl .0) (none-put _ 4 _ (c .before .before .before .before .before .before .before .args .out .now) refl .0), four-values _ _ _ _ (c .before .before .put .ensures))
 
 pub store-four-spec : {M : Type 1} → statement M
 store-four-spec =

@@ -1,7 +1,6 @@
-use Prim.Native.Nat.{_≤_}
 use lib.Seq.{length-take-le}
 use Rattle.writer.specs.Storing.{storedFor}
-use mathlib.Core.Path.{_≡_, refl, sym, ap, _∙_}
+use mathlib.Core.Path.{sym}
 use lib.ListN.{length}
 use Rattle.writer.proofs.Whole.{inside, cleared-length, blocks-ready, held-is, self-placed, prefix-length}
 use native.Mathlib.Omega.{arith}

@@ -1,4 +1,7 @@
-use Rattle.writer.proofs.Placing.{plain-is, whole-room, whole-put}
+use mathlib.Core.Path.{refl}
+use native.Mathlib.Omega.{arith}
+use Rattle.writer.proofs.Over.{put-part}
+use Rattle.writer.proofs.Placing.{plain-is, whole-room, whole-four}
 use borrow.Author.Needs.{needs}
 use Rattle.writer.proofs.store_pixels.Statement.{statement}
 use Rattle.writer.proofs.store_pixels.Tie as tie
@@ -6,14 +9,42 @@ use Rattle.writer.proofs.store_pixels.Tie as tie
 is-plain-requires : tie.Need-is-plain-requires
 is-plain-requires c κs = search needs
 
-store-four-requires : tie.Need-store-four-requires
-store-four-requires c κs = let p = plain-is (c .before .before .before .before .before .args .form .width) (c .before .before .before .before .before .args .form .underflow) (c .before .before .is-plain .result) (c .before .before .is-plain .ensures) (c .before .if1 .taken) in rw (p .0) at (whole-room (c .before .before .before .before .before .args .form) (c .before .before .before .before .before .args .base) (c .before .before .before .before .before .args .pixels .now) (c .before .before .before .before .before .args .out .now) (c .before .before .before .before .before .args .at) (p .1) (c .before .before .before .before .before .pre .1) (c .before .before .before .before .before .pre .2) (c .before .before .before .before .before .pre .3))
+mul-end : tie.Need-mul-end
+mul-end c = search needs
+
+add-end : tie.Need-add-end
+add-end c =
+    let a = c .before .before .before .before .args in
+    let p = plain-is (a .form .width) (a .form .underflow) (c .before .is-plain .result) (c .before .is-plain .ensures) (c .if1 .taken) in
+    let r = rw (p .0) at (whole-room (a .form) (a .base) (a .pixels .now) (a .out .now) (a .at) (p .1) (c .before .before .before .before .pre .1) (c .before .before .before .before .pre .2) (c .before .before .before .before .pre .3)) in
+    omega (arith, r .image)
+
+sub-store-halves : tie.Need-sub-store-halves
+sub-store-halves c = search needs
+
+part-store-halves-start : tie.Need-part-store-halves-start
+part-store-halves-start c = search needs
+
+part-store-halves-end : tie.Need-part-store-halves-end
+part-store-halves-end c =
+    let a = c .before .before .before .before .args in
+    let p = plain-is (a .form .width) (a .form .underflow) (c .before .is-plain .result) (c .before .is-plain .ensures) (c .if1 .taken) in
+    let r = rw (p .0) at (whole-room (a .form) (a .base) (a .pixels .now) (a .out .now) (a .at) (p .1) (c .before .before .before .before .pre .1) (c .before .before .before .before .pre .2) (c .before .before .before .before .pre .3)) in
+    omega (arith, r .image)
+
+store-halves-requires : tie.Need-store-halves-requires
+store-halves-requires c κs = search needs
 
 same-length : tie.Need-same-length
 same-length c = search needs
 
 returns : tie.Need-returns
-returns c = let p = plain-is (c .before .before .before .before .before .before .before .before .args .form .width) (c .before .before .before .before .before .before .before .before .args .form .underflow) (c .before .before .before .before .before .is-plain .result) (c .before .before .before .before .before .is-plain .ensures) (c .before .before .before .before .if1 .taken) in whole-put (c .before .before .before .before .before .before .before .before .args .form) (c .before .before .before .before .before .before .before .before .args .base) (c .before .before .before .before .before .before .before .before .args .pixels .now) (c .before .before .before .before .before .before .before .before .args .out .now) (c .before .before .before .before .before .before .before .before .args .at) (p .1) (c .before .before .before .before .before .before .before .before .pre .1) (c .before .before .before .before .before .before .before .before .pre .2) (c .before .before .before .before .before .before .before .before .pre .3) _ (c .before .out .given) (rw (p .0) (c .before .before .store-four .ensures .1))
+returns c =
+    let a = c .before .before .before .before .before .before .before .before .args in
+    let p = plain-is (a .form .width) (a .form .underflow) (c .before .before .before .before .before .is-plain .result) (c .before .before .before .before .before .is-plain .ensures) (c .before .before .before .before .if1 .taken) in
+    let r = rw (p .0) at (whole-room (a .form) (a .base) (a .pixels .now) (a .out .now) (a .at) (p .1) (c .before .before .before .before .before .before .before .before .pre .1) (c .before .before .before .before .before .before .before .before .pre .2) (c .before .before .before .before .before .before .before .before .pre .3)) in
+    let o = put-part (a .pixels .now) (a .out .now) _ 4 (a .at .image) _ refl (r .image) (c .before .before .store-halves .ensures .1) in
+    whole-four (a .form) (a .base) (a .pixels .now) (a .out .now) (a .at) (p .1) (c .before .before .before .before .before .before .before .before .pre .1) (c .before .before .before .before .before .before .before .before .pre .2) (c .before .before .before .before .before .before .before .before .pre .3) _ (p .0) (r .image) o
 
 has-few-requires : tie.Need-has-few-requires
 has-few-requires c κs = search needs
@@ -50,7 +81,12 @@ store-pixels-spec =
     tie.close
     (tie.spec
     is-plain-requires
-    store-four-requires
+    mul-end
+    add-end
+    sub-store-halves
+    part-store-halves-start
+    part-store-halves-end
+    store-halves-requires
     same-length
     returns
     has-few-requires
