@@ -52,7 +52,7 @@ static int run(int who, const mar_file *f, uint32_t *px) {
     return 0;
 }
 
-/* Each in turn. The answer: 0, or a refusal, or 99 where pixels differ. */
+/* Each in turn; pixels are compared with those expected, if any are given. The answer: 0, or a refusal, or 99 where pixels differ. */
 static int turn(const mar_file *f, uint32_t *px, const uint32_t *expected, double best[4]) {
     int wrong = 0;
     for (int who = 0; who < 4; who++) {
@@ -60,7 +60,7 @@ static int turn(const mar_file *f, uint32_t *px, const uint32_t *expected, doubl
         wrong |= run(who, f, px);
         t = now() - t;
         if (t < best[who]) best[who] = t;
-        if (who < 3 && memcmp(px, expected, 4 * f->plain.pixels)) wrong = 99;
+        if (expected && who < 3 && memcmp(px, expected, 4 * f->plain.pixels)) wrong = 99;
     }
     return wrong;
 }
@@ -71,7 +71,8 @@ static void row(unsigned side, int big, size_t n_pairs) {
     uint32_t *px = malloc(n * 4), *expected = malloc(n * 4);
     double best[4] = { 1e9, 1e9, 1e9, 1e9 };
     int wrong = gcc_read_mar(&f.plain, expected);
-    for (int round = 0; round < ROUNDS && !wrong; round++) wrong = turn(&f, px, expected, best);
+    /* in the first round only: comparing pushes the pixels out of the cache for whoever comes next */
+    for (int round = 0; round < ROUNDS && !wrong; round++) wrong = turn(&f, px, round ? 0 : expected, best);
     double faster = best[0] < best[1] ? best[0] : best[1];
     printf("| read mar, %s-endian, %s pairs | %4u | %6.3f | %6.3f | %6.3f | %6.3f | %5.2f |%s\n", big ? "big" : "little",
            n_pairs ? "4,000" : "no", side, best[0] * 1e9 / n, best[1] * 1e9 / n, best[2] * 1e9 / n, best[3] * 1e9 / n, best[2] / faster,
