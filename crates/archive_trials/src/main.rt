@@ -653,7 +653,16 @@ fn turn(
 ) -> Played {
     let model = p.model;
     let g = make(c, held, ledger, model.lines as u64);
-    let e = expect(c, frame, opened, asked, model_held, model_ledger, notes, model);
+    let e = expect(
+        c,
+        frame,
+        opened,
+        asked,
+        model_held,
+        model_ledger,
+        notes,
+        model,
+    );
     note(notes, g.number);
     let after = e.model;
     let same = are_same(held, model_held, ledger, model_ledger);
