@@ -205,11 +205,13 @@ pub fn count(random: &mut Random, baseline: u32) -> u32 {
     }
 }
 
+/// Counts of which none, some or all may need an entry: the library goes through pixels with few entries another way than through those with many.
 pub fn counts(random: &mut Random, length: usize, baseline: u32) -> Vec<u32> {
     let plain = random.once_in(4);
-    let one = |random: &mut Random| match plain {
-        true => baseline.saturating_add(1 + random.below(253) as u32),
-        false => count(random, baseline),
+    let seldom = random.pick(&[1, 1, 40, 200]);
+    let one = |random: &mut Random| match !plain && random.once_in(seldom) {
+        true => count(random, baseline),
+        false => baseline.saturating_add(1 + random.below(253) as u32),
     };
     (0..length).map(|_| one(random)).collect()
 }
@@ -256,8 +258,12 @@ pub fn loose(random: &mut Random, layout: &Layout) -> Vec<u8> {
     let mut layout = layout.clone();
     let (mut image, mut tables) = (Vec::new(), [Vec::new(), Vec::new(), Vec::new()]);
     let steep = random.once_in(10);
+    let seldom = random.pick(&[1, 1, 40, 200]);
     for _ in 0..layout.pixels() {
-        let mut value = stored(random, layout.width);
+        let mut value = match random.once_in(seldom) {
+            true => stored(random, layout.width),
+            false => 1 + random.below(250) as u32,
+        };
         image.extend_from_slice(&value.to_le_bytes()[..layout.width as usize]);
         if layout.width == 1 && value == 255 {
             value = random.pick(&[0, 255, 300, 65534, 65535, 65535]);
