@@ -96,7 +96,7 @@ soak: second-reader
 mar-trials: second-reader
 	$(KEEP_MEMORY) $(SECOND_READER) mar-trials
 
-# Four deliberate faults in copies of the library, which the comparison has to find.
+# Five deliberate faults in copies of the library, which the comparison has to find.
 faults: deps-rust
 	tests/second_reader/faults.sh
 
