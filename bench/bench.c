@@ -8,7 +8,7 @@
 /* Short rounds, many of them: on a shared machine some fall into a quiet moment. */
 static int rounds(unsigned side) { return side <= 1024 ? 150 : 15; }
 
-/* What was read or written is compared in the first round only: comparing pushes the pixels out of the cache for whoever comes next. */
+/* What was read or written is compared in the first round only: in every round it favours whoever has the first turn, since nothing is compared after memcpy. */
 static int compared(int round) { return round == 0; }
 
 static void row(const char *name, int format, unsigned side, int width, int under_width, unsigned below) {

@@ -71,7 +71,7 @@ static void row(unsigned side, int big, size_t n_pairs) {
     uint32_t *px = malloc(n * 4), *expected = malloc(n * 4);
     double best[4] = { 1e9, 1e9, 1e9, 1e9 };
     int wrong = gcc_read_mar(&f.plain, expected);
-    /* in the first round only: comparing pushes the pixels out of the cache for whoever comes next */
+    /* compared in the first round only, as bench.c says */
     for (int round = 0; round < ROUNDS && !wrong; round++) wrong = turn(&f, px, round ? 0 : expected, best);
     double faster = best[0] < best[1] ? best[0] : best[1];
     printf("| read mar, %s-endian, %s pairs | %4u | %6.3f | %6.3f | %6.3f | %6.3f | %5.2f |%s\n", big ? "big" : "little",
