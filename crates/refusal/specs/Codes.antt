@@ -1,11 +1,11 @@
--- Document 01, "Numbers given back", and request A2: the number of each refusal, and the value that goes with it.
+-- Document 01, "Numbers given back", and the requests of document 02: the number of each refusal, and the value that goes with it.
 use Prim.Native.Nat.{ℕ}
 use Rattle.refusal.specs.declared.Refusal.{Refusal}
 use Rattle.refusal.specs.declared.Refusal.the-variants as R
 use Rattle.refusal.specs.declared.Code.{Code}
 
 abbrev pub refusalNumber : Refusal → ℕ
--- under 240 bytes, or under the header's length; mar: under one record
+-- under 240 bytes, or under the header's length; mar: under one record; d*TREK: under the header's length
 refusalNumber R.HeaderTruncated = 1
 -- a name of lines 0 to 2
 refusalNumber R.WrongName = 2
@@ -50,10 +50,24 @@ refusalNumber R.NotADate = 25
 -- purge: no keep line stands; not yet
 refusalNumber R.NoKeepLine = 26
 refusalNumber R.NotYet = 27
--- mar: no such size; numbers that do not follow from the first and the fifth; no such header entry
+-- mar: no such size; numbers that do not follow from the first and the fifth
 refusalNumber R.BadPlateSize = 28
 refusalNumber R.PlateMismatch = 29
+-- chunks: the underflow buffer is shorter than the entries
+refusalNumber R.UnderflowBufferShort = 30
+-- amend: the last standing line is a keep line
+refusalNumber R.LastIsKeep = 31
+-- d*TREK: the header's start or length; its syntax; a required keyword; a type or compression that is not read
+refusalNumber R.BadHeaderStart = 32
+refusalNumber R.BadSyntax = 33
+refusalNumber R.BadContent = 34
+refusalNumber R.UnsupportedData = 35
+-- tenths: fewer doubles than pixels
+refusalNumber R.TenthsArrayShort = 36
+-- mar: no such header entry
 refusalNumber R.NoSuchEntry = 37
+-- chunks: the header buffer is too short
+refusalNumber R.HeaderBufferShort = 38
 
 -- the header line of a field, the place of an entry, counted from 0; 0 for every other refusal
 abbrev pub refusalPlace : Refusal → ℕ
@@ -86,7 +100,15 @@ refusalPlace R.NoKeepLine = 0
 refusalPlace R.NotYet = 0
 refusalPlace R.BadPlateSize = 0
 refusalPlace R.PlateMismatch = 0
+refusalPlace R.UnderflowBufferShort = 0
+refusalPlace R.LastIsKeep = 0
+refusalPlace R.BadHeaderStart = 0
+refusalPlace R.BadSyntax = 0
+refusalPlace R.BadContent = 0
+refusalPlace R.UnsupportedData = 0
+refusalPlace R.TenthsArrayShort = 0
 refusalPlace R.NoSuchEntry = 0
+refusalPlace R.HeaderBufferShort = 0
 
 -- a refusal as its number and its value
 abbrev pub codeOf : Refusal → Code

@@ -2,7 +2,7 @@
 ghost use mathlib.Core.Path.{_≡_};
 ghost use Rattle.refusal.specs.Codes.{refusalNumber, refusalPlace, codeOf};
 
-// One case for each number of document 01's table, and then of request A2, in their order; specs/Codes.antt gives the numbers.
+// One case for each number of document 01's table and of document 02's requests, in their order; specs/Codes.antt gives the numbers.
 pub enum Refusal {
     HeaderTruncated,
     WrongName,
@@ -33,7 +33,15 @@ pub enum Refusal {
     NotYet,
     BadPlateSize,
     PlateMismatch,
+    UnderflowBufferShort,
+    LastIsKeep,
+    BadHeaderStart,
+    BadSyntax,
+    BadContent,
+    UnsupportedData,
+    TenthsArrayShort,
     NoSuchEntry,
+    HeaderBufferShort,
 }
 
 // What a caller outside sees of a refusal: its number, and the header line or the entry's place that goes with it.
@@ -75,7 +83,15 @@ pub fn number_of(r: Refusal) -> u32
         Refusal::NotYet => 27,
         Refusal::BadPlateSize => 28,
         Refusal::PlateMismatch => 29,
+        Refusal::UnderflowBufferShort => 30,
+        Refusal::LastIsKeep => 31,
+        Refusal::BadHeaderStart => 32,
+        Refusal::BadSyntax => 33,
+        Refusal::BadContent => 34,
+        Refusal::UnsupportedData => 35,
+        Refusal::TenthsArrayShort => 36,
         Refusal::NoSuchEntry => 37,
+        Refusal::HeaderBufferShort => 38,
     }
 }
 
@@ -112,7 +128,15 @@ pub fn place_of(r: Refusal) -> u32
         Refusal::NotYet => 0,
         Refusal::BadPlateSize => 0,
         Refusal::PlateMismatch => 0,
+        Refusal::UnderflowBufferShort => 0,
+        Refusal::LastIsKeep => 0,
+        Refusal::BadHeaderStart => 0,
+        Refusal::BadSyntax => 0,
+        Refusal::BadContent => 0,
+        Refusal::UnsupportedData => 0,
+        Refusal::TenthsArrayShort => 0,
         Refusal::NoSuchEntry => 0,
+        Refusal::HeaderBufferShort => 0,
     }
 }
 
