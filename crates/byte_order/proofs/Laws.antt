@@ -1,16 +1,17 @@
 -- Laws of numbers in either byte order.
 -- Assumes nothing.
-use mathlib.Core.Path.{_≡_, refl, sym, ap}
+use mathlib.Core.Path.{_≡_, refl, sym, ap, _∙_}
 use mathlib.Core.Bool.{Bool, true, false}
 use mathlib.Core.List.{List, [], _∷_}
-use Prim.Native.Nat.{ℕ, suc, _+_, _*_, _-_, _/_, _%_, _≤_, _<_}
+use Prim.Native.Nat.{ℕ, zero, suc, _+_, _*_, _-_, _/_, _%_, _≤_, _<_}
 use native.Mathlib.Nat.{add-zero, le-of-suc-le-suc, not-suc-le-zero, suc-mul, div-lt-iff-lt-mul}
 use native.Mathlib.Omega.{arith}
 use lib.ListN.{length, take, drop, getD, length-take, length-drop}
 use lib.Seq.{drop-drop, take-all, take-take, getD-drop}
 use lib.Dec.{leb}
 use borrow.Author.Tests.{le-leb, lt-leb, leb-true, leb-false}
-use Rattle.lists.specs.Bytes.{little, bigFrom, big}
+use Rattle.lists.specs.Choose.{if_then_else_}
+use Rattle.lists.specs.Bytes.{little, bigFrom, big, chunked}
 use Rattle.lists.proofs.Parts.{drop-take}
 use Rattle.lists.proofs.Chunks.{chunked-length, chunked-at, chunked-part, chunked-front}
 use Rattle.table.specs.Table.{entries}
@@ -79,12 +80,6 @@ two [] h = absurd (not-suc-le-zero h)
 two (a ∷ []) h = absurd (not-suc-le-zero (le-of-suc-le-suc h))
 two (a ∷ b ∷ u) h = omega arith
 
-pub big-two : (at : ℕ) (t : List ℕ) → at + 2 ≤ length t → getD t at 0 * 256 + getD t (at + 1) 0 ≡ big (take 2 (drop at t))
-big-two at t h =
-    let a : getD (drop at t) 0 0 ≡ getD t at 0 = rw (getD-drop, add-zero) in
-    let b : getD (drop at t) 1 0 ≡ getD t (at + 1) 0 = rw getD-drop in
-    omega (arith, two (drop at t) (rw length-drop (omega arith)))
-
 pub big-exchanged : (u : List ℕ) → 2 ≤ length u → getD u 0 0 < 256 → getD u 1 0 < 256 → big (take 2 u) ≡ little 2 u % 256 * 256 + little 2 u / 256
 unfolding little
 big-exchanged u h p q =
@@ -102,13 +97,56 @@ little-four at t p q = rw (p, q, ← drop-drop 2 at t) (go (drop at t))
         let y = ap (λ (l : List ℕ). getD (drop 1 l) 0 0) (drop-drop 1 1 u) in
         omega (arith, x, y)
 
-pub big-four : (at : ℕ) (t : List ℕ) {a b : ℕ} → at + 4 ≤ length t → a ≡ big (take 2 (drop at t)) → b ≡ big (take 2 (drop (at + 2) t)) → a * 65536 + b ≡ big (take 4 (drop at t))
+-- four bytes in either order, and the one order from the other
+four : (u : List ℕ) → 4 ≤ length u → big (take 4 u) ≡ getD u 0 0 * 16777216 + getD u 1 0 * 65536 + getD u 2 0 * 256 + getD u 3 0
 unfolding bigFrom
-big-four at t h p q = rw (p, q, ← drop-drop 2 at t) (go (drop at t) (rw length-drop (omega arith)))
-  where
-    go : (u : List ℕ) → 4 ≤ length u → big (take 2 u) * 65536 + big (take 2 (drop 2 u)) ≡ big (take 4 u)
-    go [] l = absurd (not-suc-le-zero l)
-    go (a ∷ []) l = absurd (not-suc-le-zero (le-of-suc-le-suc l))
-    go (a ∷ b ∷ []) l = absurd (not-suc-le-zero (le-of-suc-le-suc (le-of-suc-le-suc l)))
-    go (a ∷ b ∷ c ∷ []) l = absurd (not-suc-le-zero (le-of-suc-le-suc (le-of-suc-le-suc (le-of-suc-le-suc l))))
-    go (a ∷ b ∷ c ∷ d ∷ u) l = omega arith
+four [] h = absurd (not-suc-le-zero h)
+four (a ∷ []) h = absurd (not-suc-le-zero (le-of-suc-le-suc h))
+four (a ∷ b ∷ []) h = absurd (not-suc-le-zero (le-of-suc-le-suc (le-of-suc-le-suc h)))
+four (a ∷ b ∷ c ∷ []) h = absurd (not-suc-le-zero (le-of-suc-le-suc (le-of-suc-le-suc (le-of-suc-le-suc h))))
+four (a ∷ b ∷ c ∷ d ∷ u) h = omega arith
+
+digit : (a m : ℕ) → a < 256 → (a + 256 * m) % 256 ≡ a
+digit a m p = omega arith
+
+digits : (a b c d : ℕ) {v : ℕ} → a < 256 → b < 256 → c < 256 → v ≡ a + 256 * (b + 256 * (c + 256 * d))
+    → a * 16777216 + b * 65536 + c * 256 + d ≡ v % 256 * 16777216 + v / 256 % 256 * 65536 + v / 65536 % 256 * 256 + v / 16777216
+digits a b c d {v} p q r e =
+    let m : v / 256 ≡ b + 256 * (c + 256 * d) = omega arith in
+    let n : v / 65536 ≡ c + 256 * d = omega arith in
+    let w : v % 256 ≡ a = omega arith in
+    let x : v / 256 % 256 ≡ b = rw m (digit b (c + 256 * d) q) in
+    let y : v / 65536 % 256 ≡ c = rw n (digit c d r) in
+    let z : v / 16777216 ≡ d = omega arith in
+    rw (w, x, y, z)
+
+little-digits : (u : List ℕ) → little 4 u ≡ getD u 0 0 + 256 * (getD u 1 0 + 256 * (getD u 2 0 + 256 * getD u 3 0))
+unfolding little
+little-digits u =
+    let b : getD (drop 1 u) 0 0 ≡ getD u 1 0 = rw getD-drop in
+    let c : getD (drop 1 (drop 1 u)) 0 0 ≡ getD u 2 0 = rw (drop-drop, getD-drop) in
+    let d : getD (drop 1 (drop 1 (drop 1 u))) 0 0 ≡ getD u 3 0 = rw (drop-drop, drop-drop, getD-drop) in
+    omega arith
+
+pub big-reversed : (u : List ℕ) → 4 ≤ length u → ((i : ℕ) → getD u i 0 < 256)
+    → big (take 4 u) ≡ little 4 u % 256 * 16777216 + little 4 u / 256 % 256 * 65536 + little 4 u / 65536 % 256 * 256 + little 4 u / 16777216
+big-reversed u h b = four u h ∙ digits (getD u 0 0) (getD u 1 0) (getD u 2 0) (getD u 3 0) (b 0) (b 1) (b 2) (little-digits u)
+
+-- a number of one byte is the same in both orders
+one-byte : (t : List ℕ) → number O.Big 1 t ≡ number O.Little 1 t
+unfolding number little bigFrom
+one-byte [] = refl
+one-byte (b ∷ bs) = omega arith
+
+all-bytes : (n : ℕ) (t : List ℕ) → chunked (number O.Big 1) 1 n t ≡ chunked (number O.Little 1) 1 n t
+unfolding chunked
+all-bytes zero t = refl
+all-bytes (suc n) t = rw (one-byte t, all-bytes n (drop 1 t))
+
+pub bytes-same : (n : ℕ) (t : List ℕ) → numbers O.Big 1 n t ≡ numbers O.Little 1 n t
+unfolding numbers
+bytes-same n t = all-bytes n t
+
+-- what a loading leaves where there are bytes enough
+pub loaded : (m l : ℕ) (xs px : List ℕ) {out : List ℕ} → m ≤ l → out ≡ if_then_else_ (leb m l) xs px → out ≡ xs
+loaded m l xs px h q = q ∙ rw (le-leb m l h)

@@ -1,10 +1,12 @@
 // Numbers in either byte order.
 ghost use mathlib.Core.Path.{_≡_};
 ghost use Prim.Native.Nat.{_+_, _*_, _/_, _%_, _<_, _≤_};
-ghost use lib.ListN.{length, take, drop};
+ghost use lib.ListN.{length, drop};
 ghost use lib.Dec.{leb};
 ghost use Rattle.lists.specs.Choose.{if_then_else_};
-ghost use Rattle.lists.specs.Bytes.{little, big};
+ghost use Rattle.lists.specs.Bytes.{little};
+ghost use Rattle.lists.specs.Parts.{withPart};
+ghost use Rattle.layout.specs.Form.{widthBytes};
 ghost use Rattle.byte_order.specs.Numbers.{numbers, numberAt};
 use layout::Width;
 
@@ -41,23 +43,11 @@ fn little32(t: &[u8], at: usize) -> u32
     little16(t, at) + 65536 * little16(t, next)
 }
 
-// The 16-bit number at `at`, most significant byte first.
-fn big16(t: &[u8], at: usize) -> u32
-    requires { ⌜ at + 2 ≤ length (now t) ⌝ }
-    ensures { λ r. ⌜ r ≡ big (take 2 (drop at (now (t .entry)))) ⌝ }
-    ensures { λ r. ⌜ r < 65536 ⌝ }
+// The four bytes of a number in the opposite order. The compiler makes one exchange of it, and vector instructions in a loop.
+fn reversed(v: u32) -> u32
+    ensures { λ r. ⌜ r ≡ v % 256 * 16777216 + v / 256 % 256 * 65536 + v / 65536 % 256 * 256 + v / 16777216 ⌝ }
 {
-    let next = at + 1;
-    t[at] as u32 * 256 + (t[next] as u32)
-}
-
-// The 32-bit number at `at`, most significant byte first.
-fn big32(t: &[u8], at: usize) -> u32
-    requires { ⌜ at + 4 ≤ length (now t) ⌝ }
-    ensures { λ r. ⌜ r ≡ big (take 4 (drop at (now (t .entry)))) ⌝ }
-{
-    let next = at + 2;
-    big16(t, at) * 65536 + big16(t, next)
+    v % 256 * 16777216 + v / 256 % 256 * 65536 + v / 65536 % 256 * 256 + v / 16777216
 }
 
 // 32-bit number k of t, and 0 where t ends before it does.
@@ -70,7 +60,7 @@ pub fn number_at(t: &[u8], order: ByteOrder, k: usize) -> u32
     let at = k * 4;
     match order {
         ByteOrder::Little => little32(t, at),
-        ByteOrder::Big => big32(t, at),
+        ByteOrder::Big => reversed(little32(t, at)),
     }
 }
 
@@ -91,13 +81,82 @@ fn load_big16(t: &[u8], out: &mut [u32]) -> bool
     true
 }
 
-// As many 16-bit numbers as out has places, if t has them. Each order has a loop of its own.
-pub fn load16(t: &[u8], order: ByteOrder, out: &mut [u32]) -> bool
-    ensures { λ r. ⌜ r ≡ leb (length (now (out .entry)) * 2) (length (now (t .entry))) ⌝ }
-    ensures { λ _. ⌜ now (out .exit) ≡ if_then_else_ (leb (length (now (out .entry)) * 2) (length (now (t .entry)))) (numbers order 2 (length (now (out .entry))) (now (t .entry))) (now (out .entry)) ⌝ }
+fn load_big32(t: &[u8], out: &mut [u32]) -> bool
+    ensures { λ r. ⌜ r ≡ leb (length (now (out .entry)) * 4) (length (now (t .entry))) ⌝ }
+    ensures { λ _. ⌜ now (out .exit) ≡ if_then_else_ (leb (length (now (out .entry)) * 4) (length (now (t .entry)))) (numbers ByteOrder.Big 4 (length (now (out .entry))) (now (t .entry))) (now (out .entry)) ⌝ }
+{
+    if t.len() < out.len() * 4 {
+        return false;
+    }
+    let mut at = 0;
+    let mut i = 0;
+    while i < out.len() {
+        out[i] = reversed(little32(t, at));
+        at += 4;
+        i += 1;
+    }
+    true
+}
+
+// A number of one byte is the same in both orders.
+fn load_big(t: &[u8], width: Width, out: &mut [u32]) -> bool
+    ensures { λ r. ⌜ r ≡ leb (length (now (out .entry)) * widthBytes width) (length (now (t .entry))) ⌝ }
+    ensures { λ _. ⌜ now (out .exit) ≡ if_then_else_ (leb (length (now (out .entry)) * widthBytes width) (length (now (t .entry)))) (numbers ByteOrder.Big (widthBytes width) (length (now (out .entry))) (now (t .entry))) (now (out .entry)) ⌝ }
+{
+    match width {
+        Width::One => table::load(t, Width::One, out),
+        Width::Two => load_big16(t, out),
+        Width::Four => load_big32(t, out),
+    }
+}
+
+// As many numbers as out has places, if t has them. Each order and width has a loop of its own.
+pub fn load(t: &[u8], order: ByteOrder, width: Width, out: &mut [u32]) -> bool
+    ensures { λ r. ⌜ r ≡ leb (length (now (out .entry)) * widthBytes width) (length (now (t .entry))) ⌝ }
+    ensures { λ _. ⌜ now (out .exit) ≡ if_then_else_ (leb (length (now (out .entry)) * widthBytes width) (length (now (t .entry)))) (numbers order (widthBytes width) (length (now (out .entry))) (now (t .entry))) (now (out .entry)) ⌝ }
 {
     match order {
-        ByteOrder::Little => table::load(t, Width::Two, out),
-        ByteOrder::Big => load_big16(t, out),
+        ByteOrder::Little => table::load(t, width, out),
+        ByteOrder::Big => load_big(t, width, out),
     }
+}
+
+// Numbers p to e of t, into their places.
+fn load_part(t: &[u8], order: ByteOrder, width: Width, p: usize, e: usize, out: &mut [u32])
+    requires { ⌜ (p ≤ e) × (e ≤ length (now out)) × (length (now out) * widthBytes width ≤ length (now t)) ⌝ }
+    ensures { λ _. ⌜ now (out .exit) ≡ withPart p e (numbers order (widthBytes width) (length (now (out .entry))) (now (t .entry))) (now (out .entry)) ⌝ }
+{
+    let at = p * layout::width_bytes(width);
+    load(&t[at..], order, width, &mut out[p..e]);
+}
+
+// The two halves side by side, 256 numbers of each in turn.
+fn load_both(t: &[u8], order: ByteOrder, width: Width, out: &mut [u32])
+    requires { ⌜ length (now out) * widthBytes width ≤ length (now t) ⌝ }
+    ensures { λ _. ⌜ now (out .exit) ≡ numbers order (widthBytes width) (length (now (out .entry))) (now (t .entry)) ⌝ }
+{
+    let n = out.len();
+    let half = n / 2;
+    let mut p = 0;
+    while p + 256 <= half {
+        let e = p + 256;
+        load_part(t, order, width, p, e, out);
+        load_part(t, order, width, half + p, half + e, out);
+        p = e;
+    }
+    load_part(t, order, width, p, half, out);
+    load_part(t, order, width, half + p, n, out);
+}
+
+// What load does, in two streams: for many numbers, memory is faster so than in one.
+pub fn load_halves(t: &[u8], order: ByteOrder, width: Width, out: &mut [u32]) -> bool
+    ensures { λ r. ⌜ r ≡ leb (length (now (out .entry)) * widthBytes width) (length (now (t .entry))) ⌝ }
+    ensures { λ _. ⌜ now (out .exit) ≡ if_then_else_ (leb (length (now (out .entry)) * widthBytes width) (length (now (t .entry)))) (numbers order (widthBytes width) (length (now (out .entry))) (now (t .entry))) (now (out .entry)) ⌝ }
+{
+    let end = out.len() * layout::width_bytes(width);
+    if t.len() < end {
+        return false;
+    }
+    load_both(t, order, width, out);
+    true
 }

@@ -2,12 +2,12 @@
 ghost use mathlib.Core.Path.{_≡_};
 ghost use Prim.Native.Nat.{_+_, _*_, _≤_};
 ghost use lib.ListN.{length, drop};
-ghost use Rattle.lists.specs.Parts.{withPart};
 ghost use Rattle.byte_order.specs.Numbers.{numbers};
 ghost use Rattle.marks.specs.Steps.{placing, placed};
 ghost use Rattle.mar_image.specs.Pairs.{pairEntry, pairAt, pairEntries};
 ghost use Rattle.mar_image.specs.MarImage.{checkedPairs, platePixels, answerBy, imageAnswer, imagePixels, marAnswer, marPixels};
 use byte_order::ByteOrder;
+use layout::Width;
 use mar_header::MarHeader;
 use mar_header::MarHeaderAnswer;
 use mar_header::Side;
@@ -68,40 +68,13 @@ fn place_pairs(table: &[u8], order: ByteOrder, n: u32, pixels: &mut [u32]) -> Ch
     checked
 }
 
-// Pixels p to e of the stored image, into their places.
-fn load_part(image: &[u8], order: ByteOrder, p: usize, e: usize, pixels: &mut [u32])
-    requires { ⌜ (p ≤ e) × (e ≤ length (now pixels)) × (length (now pixels) * 2 ≤ length (now image)) ⌝ }
-    ensures { λ _. ⌜ now (pixels .exit) ≡ withPart p e (numbers order 2 (length (now (pixels .entry))) (now (image .entry))) (now (pixels .entry)) ⌝ }
-{
-    let at = p * 2;
-    byte_order::load16(&image[at..], order, &mut pixels[p..e]);
-}
-
-// The stored image, its two halves side by side, 256 pixels of each in turn: memory is faster in two streams than in one.
-fn load_image(image: &[u8], order: ByteOrder, pixels: &mut [u32])
-    requires { ⌜ length (now pixels) * 2 ≤ length (now image) ⌝ }
-    ensures { λ _. ⌜ now (pixels .exit) ≡ numbers order 2 (length (now (pixels .entry))) (now (image .entry)) ⌝ }
-{
-    let n = pixels.len();
-    let half = n / 2;
-    let mut p = 0;
-    while p + 256 <= half {
-        let e = p + 256;
-        load_part(image, order, p, e, pixels);
-        load_part(image, order, half + p, half + e, pixels);
-        p = e;
-    }
-    load_part(image, order, p, half, pixels);
-    load_part(image, order, half + p, n, pixels);
-}
-
 // The whole array, from the image's bytes and those of the records of pairs.
 fn fill(image: &[u8], order: ByteOrder, table: &[u8], n: u32, pixels: &mut [u32]) -> Checked
     requires { ⌜ (length (now pixels) * 2 ≤ length (now image)) × (n * 8 ≤ length (now table)) ⌝ }
     ensures { λ r. ⌜ r ≡ checkedPairs (numbers order 2 (length (now (pixels .entry))) (now (image .entry))) (pairEntries order n (now (table .entry))) ⌝ }
     ensures { λ _. ⌜ now (pixels .exit) ≡ platePixels (numbers order 2 (length (now (pixels .entry))) (now (image .entry))) (pairEntries order n (now (table .entry))) ⌝ }
 {
-    load_image(image, order, pixels);
+    byte_order::load_halves(image, order, Width::Two, pixels);
     let checked = place_pairs(table, order, n, pixels);
     let Checked::Good = checked else {
         table::clear(pixels);

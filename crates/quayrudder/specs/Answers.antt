@@ -16,7 +16,9 @@ use Rattle.writer.specs.declared.AskedForm.the-variants as A
 use Rattle.writer.specs.declared.WriteAnswer.{WriteAnswer}
 use Rattle.writer.specs.declared.WriteAnswer.the-variants as W
 use Rattle.refusal.specs.declared.Refusal.{Refusal}
-use Rattle.refusal.specs.Codes.{refusalNumber, refusalPlace, codeOf}
+use Rattle.refusal.specs.Codes.{refusalNumber, refusalPlace}
+use Rattle.answers.specs.declared.ReadResult.{ReadResult}
+use Rattle.answers.specs.Read.{readAccepted, readRefused}
 use Rattle.calendar.specs.declared.Date.{Date}
 use Rattle.reader.specs.declared.ReadAnswer.{ReadAnswer}
 use Rattle.reader.specs.declared.ReadAnswer.the-variants as R
@@ -34,33 +36,19 @@ use Rattle.mar_entry.specs.declared.MarEntryAnswer.{MarEntryAnswer}
 use Rattle.mar_entry.specs.declared.MarEntryAnswer.the-variants as E
 use Rattle.mar_image.specs.declared.MarAnswer.{MarAnswer}
 use Rattle.mar_image.specs.declared.MarAnswer.the-variants as M
-use Rattle.quayrudder.specs.declared.ReadResult.{ReadResult}
 use Rattle.quayrudder.specs.declared.OpenResult.{OpenResult}
 use Rattle.quayrudder.specs.declared.WriteResult.{WriteResult}
 use Rattle.quayrudder.specs.declared.LedgerResult.{LedgerResult}
 use Rattle.quayrudder.specs.declared.ListResult.{ListResult}
 use Rattle.quayrudder.specs.declared.MarEntryResult.{MarEntryResult}
 
--- a refusal's number, and its header line or entry
-abbrev pub readRefused : Refusal → ReadResult
-readRefused r = record {
-  refusal = codeOf r .number;
-  place = codeOf r .place;
-  column = 0;
-  rows = 0;
-  columns = 0;
-  end = 0;
-}
-
 abbrev pub readResult : ReadAnswer → ReadResult
-readResult (R.Frame rows columns end) =
-    record { refusal = 0; place = 0; column = 0; rows = rows; columns = columns; end = end }
+readResult (R.Frame rows columns end) = readAccepted rows columns end
 readResult (R.Refused r) = readRefused r
 
 -- a plate is square
 abbrev pub marReadResult : MarAnswer → ReadResult
-marReadResult (M.Plate side end) =
-    record { refusal = 0; place = 0; column = 0; rows = side; columns = side; end = end }
+marReadResult (M.Plate side end) = readAccepted side side end
 marReadResult (M.Refused r) = readRefused r
 
 -- an entry's bits as stored, and whether they are a float's

@@ -1,6 +1,9 @@
 // The C interface: the library's functions under fixed names, with answers as plain numbers.
+use answers::ReadResult;
 use archive::OpenAnswer;
 use calendar::Date;
+use dtrek_report::DtrekHeaderReport;
+use dtrek_report::DtrekItemReport;
 use header_report::HeaderReport;
 use layout::EntryAnswer;
 use layout::Form;
@@ -27,21 +30,15 @@ ghost use Rattle.listing.specs.Listing.{listAnswer, listBytes};
 ghost use Rattle.writer.specs.Writer.{writeAnswer, writeBytes};
 ghost use Rattle.mar_image.specs.MarImage.{marAnswer, marPixels};
 ghost use Rattle.mar_entry.specs.Entry.{entryOf};
+ghost use Rattle.dtrek_header.specs.DtrekHeader.{dtrekHeader};
+ghost use Rattle.dtrek_image.specs.DtrekImage.{dtrekAnswer, dtrekPixels};
+ghost use Rattle.dtrek_report.specs.Report.{dtrekReadResult, dtrekReport};
+ghost use Rattle.dtrek_report.specs.Item.{dtrekItem};
 ghost use Rattle.archive.specs.Open.{openAnswer, openPixels, openHeld};
 ghost use Rattle.archive.specs.Calls.{correctOutcome, withdrawOutcome};
-ghost use Rattle.quayrudder.specs.Answers.{readRefused, readResult, asForm, askedForm, writeResult, notOpened, openResult, ledgerResult, purgeResult, date, listResult, marReadResult, valueResult, marEntryResult};
+ghost use Rattle.quayrudder.specs.Answers.{readResult, asForm, askedForm, writeResult, notOpened, openResult, ledgerResult, purgeResult, date, listResult, marReadResult, valueResult, marEntryResult};
 
 // refusal is 0 where the call is accepted. Every field that a case does not name is 0.
-#[repr(C)]
-pub struct ReadResult {
-    pub refusal: u32,
-    pub place: u32,
-    pub column: u32,
-    pub rows: u32,
-    pub columns: u32,
-    pub end: u64,
-}
-
 #[repr(C)]
 pub struct WriteResult {
     pub refusal: u32,
@@ -88,33 +85,12 @@ pub extern "C" fn qr_header(frame: &[u8]) -> HeaderReport
     header_report::report(frame)
 }
 
-fn read_refused(r: Refusal) -> ReadResult
-    ensures { λ a. ⌜ a ≡ readRefused r ⌝ }
-{
-    let code = refusal::code_of(r);
-    ReadResult {
-        refusal: code.number,
-        place: code.place,
-        column: 0,
-        rows: 0,
-        columns: 0,
-        end: 0,
-    }
-}
-
 fn read_result(answer: ReadAnswer) -> ReadResult
     ensures { λ r. ⌜ r ≡ readResult answer ⌝ }
 {
     match answer {
-        ReadAnswer::Frame { rows, columns, end } => ReadResult {
-            refusal: 0,
-            place: 0,
-            column: 0,
-            rows,
-            columns,
-            end,
-        },
-        ReadAnswer::Refused(r) => read_refused(r),
+        ReadAnswer::Frame { rows, columns, end } => answers::read_accepted(rows, columns, end),
+        ReadAnswer::Refused(r) => answers::read_refused(r),
     }
 }
 
@@ -131,15 +107,8 @@ fn mar_read_result(answer: MarAnswer) -> ReadResult
     ensures { λ r. ⌜ r ≡ marReadResult answer ⌝ }
 {
     match answer {
-        MarAnswer::Plate { side, end } => ReadResult {
-            refusal: 0,
-            place: 0,
-            column: 0,
-            rows: side,
-            columns: side,
-            end,
-        },
-        MarAnswer::Refused(r) => read_refused(r),
+        MarAnswer::Plate { side, end } => answers::read_accepted(side, side, end),
+        MarAnswer::Refused(r) => answers::read_refused(r),
     }
 }
 
@@ -188,6 +157,31 @@ pub extern "C" fn qr_mar_entry(file: &[u8], entry: u32) -> MarEntryResult
     ensures { λ r. ⌜ r ≡ marEntryResult (entryOf (now (file .entry)) entry) ⌝ }
 {
     mar_entry_result(mar_entry::read_entry(file, entry))
+}
+
+// Reads a d*TREK image.
+#[no_mangle]
+pub extern "C" fn qr_dtrek_read(file: &[u8], pixels: &mut [u32]) -> ReadResult
+    ensures { λ r. ⌜ r ≡ dtrekReadResult (dtrekAnswer (now (file .entry)) (length (now (pixels .entry)))) ⌝ }
+    ensures { λ _. ⌜ now (pixels .exit) ≡ dtrekPixels (now (file .entry)) (now (pixels .entry)) ⌝ }
+{
+    dtrek_report::read(file, pixels)
+}
+
+// What the header of a d*TREK image says.
+#[no_mangle]
+pub extern "C" fn qr_dtrek_header(file: &[u8]) -> DtrekHeaderReport
+    ensures { λ r. ⌜ r ≡ dtrekReport (dtrekHeader (now (file .entry))) ⌝ }
+{
+    dtrek_report::report(file)
+}
+
+// The item of a d*TREK header from a place on.
+#[no_mangle]
+pub extern "C" fn qr_dtrek_item(file: &[u8], at: u64) -> DtrekItemReport
+    ensures { λ r. ⌜ r ≡ dtrekItem (now (file .entry)) at ⌝ }
+{
+    dtrek_report::item(file, at)
 }
 
 fn as_form(width: Width, underflow: u32) -> AskedForm

@@ -8,11 +8,14 @@ enum-known-answer c = search needs
 enum-known-answer-2 : tie.Need-enum-known-answer-2
 enum-known-answer-2 c = search needs
 
+read-accepted-requires : tie.Need-read-accepted-requires
+read-accepted-requires c κs = search needs
+
 read-refused-requires : tie.Need-read-refused-requires
 read-refused-requires c κs = search needs
 
 returns : tie.Need-returns
-returns c = rw (c .before .answer .given .1)
+returns c = rw (c .before .before .answer .given .1) (c .read-accepted .ensures)
 
 returns-2 : tie.Need-returns-2
 returns-2 c = rw (c .before .before .answer2 .given .1) (c .read-refused .ensures)
@@ -20,4 +23,4 @@ returns-2 c = rw (c .before .before .answer2 .given .1) (c .read-refused .ensure
 pub mar-read-result-spec : {M : Type 1} → statement M
 mar-read-result-spec =
     tie.close
-    (tie.spec enum-known-answer enum-known-answer-2 read-refused-requires returns returns-2)
+    (tie.spec enum-known-answer read-accepted-requires enum-known-answer-2 read-refused-requires returns returns-2)

@@ -1,0 +1,234 @@
+// The header of a d*TREK image: any bytes give its numbers or one refusal.
+ghost use mathlib.Core.Path.{_≡_};
+ghost use Rattle.dtrek_text.specs.Items.{items, has, valueOf};
+ghost use Rattle.dtrek_header.specs.Length.{lengthFrom, headerLength};
+ghost use Rattle.dtrek_header.specs.Contents.{numberUnder, isTwo, isSide, areSizes, isOrder, required, isType, supported, countOf, orderOf, widthOf, headerOf};
+ghost use Rattle.dtrek_header.specs.DtrekHeader.{headerIn, dtrekHeader};
+use byte_order::ByteOrder;
+use layout::Image;
+use layout::Width;
+use numeral::Number;
+use refusal::Refusal;
+
+pub struct DtrekHeader {
+    pub image: Image,
+    pub order: ByteOrder,
+}
+
+pub enum DtrekHeaderAnswer {
+    Accepted(DtrekHeader),
+    Refused(Refusal),
+}
+
+// The header's length, if it is shown and listed.
+pub enum Length {
+    Bytes(u32),
+    Unlisted,
+}
+
+fn length_from(number: Number) -> Length
+    ensures { λ r. ⌜ r ≡ lengthFrom number ⌝ }
+{
+    let Number::Value(n) = number else {
+        return Length::Unlisted;
+    };
+    if n < 512 {
+        return Length::Unlisted;
+    }
+    if 99840 < n {
+        return Length::Unlisted;
+    }
+    if n % 512 != 0 {
+        return Length::Unlisted;
+    }
+    Length::Bytes(n)
+}
+
+pub fn header_length(file: &[u8]) -> Length
+    ensures { λ r. ⌜ r ≡ headerLength (now (file .entry)) ⌝ }
+{
+    if file.len() < 21 {
+        return Length::Unlisted;
+    }
+    if file[20] != 59 {
+        return Length::Unlisted;
+    }
+    if dtrek_text::same(&file[..15], b"{\nHEADER_BYTES=") {
+        length_from(numeral::number_of(dtrek_text::trim(&file[15..20])))
+    } else {
+        Length::Unlisted
+    }
+}
+
+fn number_under<'a>(text: &'a [u8], key: &'a [u8]) -> Number
+    ensures { λ r. ⌜ r ≡ numberUnder (now (key .entry)) (items (now (text .entry))) ⌝ }
+{
+    numeral::number_of(dtrek_text::value(text, key))
+}
+
+fn is_two(number: Number) -> bool
+    ensures { λ r. ⌜ r ≡ isTwo number ⌝ }
+{
+    match number {
+        Number::Value(n) => n == 2,
+        Number::NotANumber => false,
+    }
+}
+
+fn is_side(n: u32) -> bool
+    ensures { λ r. ⌜ r ≡ isSide n ⌝ }
+{
+    if n < 1 {
+        return false;
+    }
+    n <= 4096
+}
+
+fn are_sizes(first: Number, second: Number) -> bool
+    ensures { λ r. ⌜ r ≡ areSizes first second ⌝ }
+{
+    let Number::Value(a) = first else {
+        return false;
+    };
+    let Number::Value(b) = second else {
+        return false;
+    };
+    if is_side(a) {
+        return is_side(b);
+    }
+    if a == 0 { b == 0 } else { false }
+}
+
+fn is_order(v: &[u8]) -> bool
+    ensures { λ r. ⌜ r ≡ isOrder (now (v .entry)) ⌝ }
+{
+    if dtrek_text::same(v, b"big_endian") {
+        return true;
+    }
+    dtrek_text::same(v, b"little_endian")
+}
+
+// Refusal 34: what must be there.
+fn has_required(text: &[u8]) -> bool
+    ensures { λ r. ⌜ r ≡ required (items (now (text .entry))) ⌝ }
+{
+    if is_two(number_under(text, b"DIM")) {} else {
+        return false;
+    }
+    let columns = number_under(text, b"SIZE1");
+    let rows = number_under(text, b"SIZE2");
+    if are_sizes(columns, rows) {} else {
+        return false;
+    }
+    if is_order(dtrek_text::value(text, b"BYTE_ORDER")) {} else {
+        return false;
+    }
+    dtrek_text::has_key(text, b"Data_type")
+}
+
+fn is_type(v: &[u8]) -> bool
+    ensures { λ r. ⌜ r ≡ isType (now (v .entry)) ⌝ }
+{
+    if dtrek_text::same(v, b"unsigned char") {
+        return true;
+    }
+    if dtrek_text::same(v, b"unsigned short int") {
+        return true;
+    }
+    dtrek_text::same(v, b"unsigned long int")
+}
+
+// Refusal 35: what can be read.
+fn is_supported(text: &[u8]) -> bool
+    ensures { λ r. ⌜ r ≡ supported (items (now (text .entry))) ⌝ }
+{
+    if is_type(dtrek_text::value(text, b"Data_type")) {} else {
+        return false;
+    }
+    if dtrek_text::has_key(text, b"COMPRESSION") {
+        return dtrek_text::same(dtrek_text::value(text, b"COMPRESSION"), b"none");
+    }
+    true
+}
+
+fn count_of(number: Number) -> u32
+    ensures { λ r. ⌜ r ≡ countOf number ⌝ }
+{
+    match number {
+        Number::Value(n) => n,
+        Number::NotANumber => 0,
+    }
+}
+
+fn order_of(v: &[u8]) -> ByteOrder
+    ensures { λ r. ⌜ r ≡ orderOf (now (v .entry)) ⌝ }
+{
+    if dtrek_text::same(v, b"big_endian") {
+        ByteOrder::Big
+    } else {
+        ByteOrder::Little
+    }
+}
+
+fn width_of(v: &[u8]) -> Width
+    ensures { λ r. ⌜ r ≡ widthOf (now (v .entry)) ⌝ }
+{
+    if dtrek_text::same(v, b"unsigned char") {
+        return Width::One;
+    }
+    if dtrek_text::same(v, b"unsigned short int") {
+        return Width::Two;
+    }
+    Width::Four
+}
+
+fn header_of(text: &[u8], n: u32) -> DtrekHeader
+    ensures { λ r. ⌜ r ≡ headerOf n (items (now (text .entry))) ⌝ }
+{
+    let rows = count_of(number_under(text, b"SIZE2"));
+    let columns = count_of(number_under(text, b"SIZE1"));
+    let width = width_of(dtrek_text::value(text, b"Data_type"));
+    let order = order_of(dtrek_text::value(text, b"BYTE_ORDER"));
+    DtrekHeader {
+        image: Image {
+            start: n,
+            rows,
+            columns,
+            width,
+        },
+        order,
+    }
+}
+
+fn read_text(text: &[u8], n: u32) -> DtrekHeaderAnswer
+    ensures { λ r. ⌜ r ≡ headerIn n (now (text .entry)) ⌝ }
+{
+    if dtrek_text::is_well_written(text) {} else {
+        return DtrekHeaderAnswer::Refused(Refusal::BadSyntax);
+    }
+    if dtrek_keys::has_repeated(text) {
+        return DtrekHeaderAnswer::Refused(Refusal::BadSyntax);
+    }
+    if has_required(text) {} else {
+        return DtrekHeaderAnswer::Refused(Refusal::BadContent);
+    }
+    if is_supported(text) {
+        DtrekHeaderAnswer::Accepted(header_of(text, n))
+    } else {
+        DtrekHeaderAnswer::Refused(Refusal::UnsupportedData)
+    }
+}
+
+// The numbers of an accepted header, or refusal 32, 1, 33, 34 or 35.
+pub fn read_header(file: &[u8]) -> DtrekHeaderAnswer
+    ensures { λ r. ⌜ r ≡ dtrekHeader (now (file .entry)) ⌝ }
+{
+    let Length::Bytes(n) = header_length(file) else {
+        return DtrekHeaderAnswer::Refused(Refusal::BadHeaderStart);
+    };
+    let end = n as usize;
+    if file.len() < end {
+        return DtrekHeaderAnswer::Refused(Refusal::HeaderTruncated);
+    }
+    read_text(&file[1..end], n)
+}
