@@ -63,7 +63,7 @@ pub fn header_length(file: &[u8]) -> Length
 fn number_under<'a>(text: &'a [u8], key: &'a [u8]) -> Number
     ensures { λ r. ⌜ r ≡ numberUnder (now (key .entry)) (items (now (text .entry))) ⌝ }
 {
-    numeral::number_of(dtrek_text::value(text, key))
+    numeral::number_of(dtrek_items::value(text, key))
 }
 
 fn is_two(number: Number) -> bool
@@ -120,10 +120,10 @@ fn has_required(text: &[u8]) -> bool
     if are_sizes(columns, rows) {} else {
         return false;
     }
-    if is_order(dtrek_text::value(text, b"BYTE_ORDER")) {} else {
+    if is_order(dtrek_items::value(text, b"BYTE_ORDER")) {} else {
         return false;
     }
-    dtrek_text::has_key(text, b"Data_type")
+    dtrek_items::has_key(text, b"Data_type")
 }
 
 fn is_type(v: &[u8]) -> bool
@@ -142,11 +142,11 @@ fn is_type(v: &[u8]) -> bool
 fn is_supported(text: &[u8]) -> bool
     ensures { λ r. ⌜ r ≡ supported (items (now (text .entry))) ⌝ }
 {
-    if is_type(dtrek_text::value(text, b"Data_type")) {} else {
+    if is_type(dtrek_items::value(text, b"Data_type")) {} else {
         return false;
     }
-    if dtrek_text::has_key(text, b"COMPRESSION") {
-        return dtrek_text::same(dtrek_text::value(text, b"COMPRESSION"), b"none");
+    if dtrek_items::has_key(text, b"COMPRESSION") {
+        return dtrek_text::same(dtrek_items::value(text, b"COMPRESSION"), b"none");
     }
     true
 }
@@ -187,8 +187,8 @@ fn header_of(text: &[u8], n: u32) -> DtrekHeader
 {
     let rows = count_of(number_under(text, b"SIZE2"));
     let columns = count_of(number_under(text, b"SIZE1"));
-    let width = width_of(dtrek_text::value(text, b"Data_type"));
-    let order = order_of(dtrek_text::value(text, b"BYTE_ORDER"));
+    let width = width_of(dtrek_items::value(text, b"Data_type"));
+    let order = order_of(dtrek_items::value(text, b"BYTE_ORDER"));
     DtrekHeader {
         image: Image {
             start: n,
@@ -203,10 +203,10 @@ fn header_of(text: &[u8], n: u32) -> DtrekHeader
 fn read_text(text: &[u8], n: u32) -> DtrekHeaderAnswer
     ensures { λ r. ⌜ r ≡ headerIn n (now (text .entry)) ⌝ }
 {
-    if dtrek_text::is_well_written(text) {} else {
+    if dtrek_items::is_well_written(text) {} else {
         return DtrekHeaderAnswer::Refused(Refusal::BadSyntax);
     }
-    if dtrek_keys::has_repeated(text) {
+    if dtrek_items::has_repeated(text) {
         return DtrekHeaderAnswer::Refused(Refusal::BadSyntax);
     }
     if has_required(text) {} else {

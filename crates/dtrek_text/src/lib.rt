@@ -2,9 +2,8 @@
 ghost use mathlib.Core.Path.{_≡_};
 ghost use Rattle.lists.specs.Bytes.{sameBytes};
 ghost use Rattle.numeral.specs.Runs.{leading, passed};
-ghost use Rattle.dtrek_text.specs.Bytes.{isWhite, isPlain, inClass, trimmed};
+ghost use Rattle.dtrek_text.specs.Bytes.{isWhite, isPlain, inClass, keywordAt, trimmed};
 ghost use Rattle.dtrek_text.specs.Parts.{isEnd};
-ghost use Rattle.dtrek_text.specs.Items.{items, has, valueOf, repeated, wellWritten};
 ghost use Rattle.dtrek_text.specs.Scan.{wordOf, itemFrom};
 
 // A kind of byte.
@@ -114,7 +113,7 @@ pub fn same(a: &[u8], b: &[u8]) -> bool
 }
 
 // Whether a part is the header's end.
-fn is_end(p: &[u8]) -> bool
+pub fn is_end(p: &[u8]) -> bool
     ensures { λ r. ⌜ r ≡ isEnd (now (p .entry)) ⌝ }
 {
     if p.len() == 0 {
@@ -133,6 +132,18 @@ fn is_end(p: &[u8]) -> bool
     } else {
         false
     }
+}
+
+// The keyword that starts at a place; nothing past the end.
+pub fn keyword_at(text: &[u8], from: usize) -> &[u8]
+    ensures { λ r. ⌜ now r ≡ keywordAt (now (text .entry)) from ⌝ }
+{
+    let n = text.len();
+    if n <= from {
+        return &text[n..];
+    }
+    let end = run_end(Class::Keyword, text, from);
+    &text[from..end]
 }
 
 // Where the keyword of a part stands, if the part is an item.
@@ -199,118 +210,6 @@ impl Cursor {
             end: at + end,
             stop,
             next: Cursor { at: stop + 1 },
-        }
-    }
-}
-
-// Whether an item has this keyword.
-pub fn has_key(text: &[u8], key: &[u8]) -> bool
-    ensures { λ r. ⌜ r ≡ has (now (key .entry)) (items (now (text .entry))) ⌝ }
-{
-    let mut c = Cursor { at: 0 };
-    loop {
-        match c.item(text) {
-            Scanned::Found {
-                start,
-                end,
-                stop: _,
-                next,
-            } => {
-                if same(&text[start..end], key) {
-                    return true;
-                }
-                c = next;
-            }
-            Scanned::Bad => {
-                return false;
-            }
-            Scanned::Last => {
-                return false;
-            }
-        }
-    }
-}
-
-// The value of the first item with this keyword; nothing where there is none.
-pub fn value<'a>(text: &'a [u8], key: &'a [u8]) -> &'a [u8]
-    ensures { λ r. ⌜ now r ≡ valueOf (now (key .entry)) (items (now (text .entry))) ⌝ }
-{
-    let mut c = Cursor { at: 0 };
-    loop {
-        match c.item(text) {
-            Scanned::Found {
-                start,
-                end,
-                stop,
-                next,
-            } => {
-                if same(&text[start..end], key) {
-                    let from = end + 1;
-                    return trim(&text[from..stop]);
-                }
-                c = next;
-            }
-            Scanned::Bad => {
-                return &text[..0];
-            }
-            Scanned::Last => {
-                return &text[..0];
-            }
-        }
-    }
-}
-
-// Whether two items have the same keyword.
-pub fn has_repeated(text: &[u8]) -> bool
-    ensures { λ r. ⌜ r ≡ repeated (items (now (text .entry))) ⌝ }
-{
-    let mut c = Cursor { at: 0 };
-    loop {
-        match c.item(text) {
-            Scanned::Found {
-                start,
-                end,
-                stop: _,
-                next,
-            } => {
-                let at = next.at;
-                if has_key(&text[at..], &text[start..end]) {
-                    return true;
-                }
-                c = next;
-            }
-            Scanned::Bad => {
-                return false;
-            }
-            Scanned::Last => {
-                return false;
-            }
-        }
-    }
-}
-
-// Whether the text is items and then the header's end.
-pub fn is_well_written(text: &[u8]) -> bool
-    ensures { λ r. ⌜ r ≡ wellWritten (now (text .entry)) ⌝ }
-{
-    let mut c = Cursor { at: 0 };
-    loop {
-        let at = c.at;
-        match c.item(text) {
-            Scanned::Found {
-                start: _,
-                end: _,
-                stop: _,
-                next,
-            } => {
-                c = next;
-            }
-            Scanned::Bad => {
-                return false;
-            }
-            Scanned::Last => {
-                return is_end(&text[at..]);
-            }
         }
     }
 }

@@ -1,0 +1,4 @@
+mod Loops
+mod Ordering
+mod Inserting
+mod Keeping
