@@ -143,9 +143,13 @@ unfolding chunked
 all-bytes zero t = refl
 all-bytes (suc n) t = rw (one-byte t, all-bytes n (drop 1 t))
 
-pub bytes-same : (n : ℕ) (t : List ℕ) → numbers O.Big 1 n t ≡ numbers O.Little 1 n t
+bytes-same : (n : ℕ) (t : List ℕ) → numbers O.Big 1 n t ≡ numbers O.Little 1 n t
 unfolding numbers
 bytes-same n t = all-bytes n t
+
+pub bytes-any : (o : ByteOrder) (n : ℕ) (t : List ℕ) → numbers o 1 n t ≡ entries 1 n t
+bytes-any O.Little n t = numbers-little 1 n t
+bytes-any O.Big n t = bytes-same n t ∙ numbers-little 1 n t
 
 -- what a loading leaves where there are bytes enough
 pub loaded : (m l : ℕ) (xs px : List ℕ) {out : List ℕ} → m ≤ l → out ≡ if_then_else_ (leb m l) xs px → out ≡ xs

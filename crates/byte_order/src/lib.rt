@@ -98,26 +98,35 @@ fn load_big32(t: &[u8], out: &mut [u32]) -> bool
     true
 }
 
-// A number of one byte is the same in both orders.
-fn load_big(t: &[u8], width: Width, out: &mut [u32]) -> bool
-    ensures { λ r. ⌜ r ≡ leb (length (now (out .entry)) * widthBytes width) (length (now (t .entry))) ⌝ }
-    ensures { λ _. ⌜ now (out .exit) ≡ if_then_else_ (leb (length (now (out .entry)) * widthBytes width) (length (now (t .entry)))) (numbers ByteOrder.Big (widthBytes width) (length (now (out .entry))) (now (t .entry))) (now (out .entry)) ⌝ }
+fn load16(t: &[u8], order: ByteOrder, out: &mut [u32]) -> bool
+    ensures { λ r. ⌜ r ≡ leb (length (now (out .entry)) * 2) (length (now (t .entry))) ⌝ }
+    ensures { λ _. ⌜ now (out .exit) ≡ if_then_else_ (leb (length (now (out .entry)) * 2) (length (now (t .entry)))) (numbers order 2 (length (now (out .entry))) (now (t .entry))) (now (out .entry)) ⌝ }
 {
-    match width {
-        Width::One => table::load(t, Width::One, out),
-        Width::Two => load_big16(t, out),
-        Width::Four => load_big32(t, out),
+    match order {
+        ByteOrder::Little => table::load(t, Width::Two, out),
+        ByteOrder::Big => load_big16(t, out),
     }
 }
 
-// As many numbers as out has places, if t has them. Each order and width has a loop of its own.
+fn load32(t: &[u8], order: ByteOrder, out: &mut [u32]) -> bool
+    ensures { λ r. ⌜ r ≡ leb (length (now (out .entry)) * 4) (length (now (t .entry))) ⌝ }
+    ensures { λ _. ⌜ now (out .exit) ≡ if_then_else_ (leb (length (now (out .entry)) * 4) (length (now (t .entry)))) (numbers order 4 (length (now (out .entry))) (now (t .entry))) (now (out .entry)) ⌝ }
+{
+    match order {
+        ByteOrder::Little => table::load(t, Width::Four, out),
+        ByteOrder::Big => load_big32(t, out),
+    }
+}
+
+// As many numbers as out has places, if t has them. Each order and width has a loop of its own; a number of one byte is the same in both orders.
 pub fn load(t: &[u8], order: ByteOrder, width: Width, out: &mut [u32]) -> bool
     ensures { λ r. ⌜ r ≡ leb (length (now (out .entry)) * widthBytes width) (length (now (t .entry))) ⌝ }
     ensures { λ _. ⌜ now (out .exit) ≡ if_then_else_ (leb (length (now (out .entry)) * widthBytes width) (length (now (t .entry)))) (numbers order (widthBytes width) (length (now (out .entry))) (now (t .entry))) (now (out .entry)) ⌝ }
 {
-    match order {
-        ByteOrder::Little => table::load(t, width, out),
-        ByteOrder::Big => load_big(t, width, out),
+    match width {
+        Width::One => table::load(t, Width::One, out),
+        Width::Two => load16(t, order, out),
+        Width::Four => load32(t, order, out),
     }
 }
 
@@ -148,7 +157,7 @@ fn load_both(t: &[u8], order: ByteOrder, width: Width, out: &mut [u32])
     load_part(t, order, width, half + p, n, out);
 }
 
-// What load does, in two streams: for many numbers, memory is faster so than in one.
+// What load does; more numbers than fit into near memory in two streams, which is faster than one.
 pub fn load_halves(t: &[u8], order: ByteOrder, width: Width, out: &mut [u32]) -> bool
     ensures { λ r. ⌜ r ≡ leb (length (now (out .entry)) * widthBytes width) (length (now (t .entry))) ⌝ }
     ensures { λ _. ⌜ now (out .exit) ≡ if_then_else_ (leb (length (now (out .entry)) * widthBytes width) (length (now (t .entry)))) (numbers order (widthBytes width) (length (now (out .entry))) (now (t .entry))) (now (out .entry)) ⌝ }
@@ -156,6 +165,9 @@ pub fn load_halves(t: &[u8], order: ByteOrder, width: Width, out: &mut [u32]) ->
     let end = out.len() * layout::width_bytes(width);
     if t.len() < end {
         return false;
+    }
+    if out.len() <= 1048576 {
+        return load(t, order, width, out);
     }
     load_both(t, order, width, out);
     true

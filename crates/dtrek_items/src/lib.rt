@@ -195,7 +195,7 @@ fn insert(places: &mut [u32], k: usize, i: usize, start: u32)
 
 // Whether two items have the same keyword. An item takes four bytes at least.
 fn any_repeated(text: &[u8], places: &mut [u32]) -> bool
-    requires { ⌜ (length (now text) ≤ 99840) × (length (now places) ≡ 24960) ⌝ }
+    requires { ⌜ (length (now text) ≤ 99840) × (length (now text) ≤ 4 * length (now places)) ⌝ }
     ensures { λ r. ⌜ r ≡ repeated (items (now (text .entry))) ⌝ }
 {
     let mut c = Cursor { at: 0 };
@@ -225,13 +225,31 @@ fn any_repeated(text: &[u8], places: &mut [u32]) -> bool
     }
 }
 
+fn few_repeated(text: &[u8]) -> bool
+    requires { ⌜ length (now text) ≤ 8192 ⌝ }
+    ensures { λ r. ⌜ r ≡ repeated (items (now (text .entry))) ⌝ }
+{
+    let mut places = [0u32; 2048];
+    any_repeated(text, &mut places)
+}
+
+fn many_repeated(text: &[u8]) -> bool
+    requires { ⌜ length (now text) ≤ 99840 ⌝ }
+    ensures { λ r. ⌜ r ≡ repeated (items (now (text .entry))) ⌝ }
+{
+    let mut places = [0u32; 24960];
+    any_repeated(text, &mut places)
+}
+
 // Whether two items have the same keyword: their places are kept in order, so that a header of any keywords takes little time.
 pub fn has_repeated(text: &[u8]) -> bool
     ensures { λ r. ⌜ r ≡ repeated (items (now (text .entry))) ⌝ }
 {
-    if 99840 < text.len() {
-        return scan_repeated(text);
+    if text.len() <= 8192 {
+        return few_repeated(text);
     }
-    let mut places = [0u32; 24960];
-    any_repeated(text, &mut places)
+    if text.len() <= 99840 {
+        return many_repeated(text);
+    }
+    scan_repeated(text)
 }

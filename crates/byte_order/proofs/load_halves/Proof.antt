@@ -21,19 +21,37 @@ returns c =
     let w = c .before .width-bytes .ensures in
     (rw (← w, e), rw (← w, e))
 
+load-requires : tie.Need-load-requires
+load-requires c κs = search needs
+
 load-both-requires : tie.Need-load-both-requires
-load-both-requires c κs = rw (c .before .before .width-bytes .ensures) at (c .before .if1 .left)
+load-both-requires c κs = rw (c .before .before .before .width-bytes .ensures) at (c .before .before .if1 .left)
 
 same-length : tie.Need-same-length
 same-length c = search needs
 
 returns-2 : tie.Need-returns-2
-returns-2 c =
-    let w = c .before .before .before .before .before .width-bytes .ensures in
-    let e = le-leb _ _ (rw w at (c .before .before .before .before .if1 .left)) in
+returns-2 c = c .before .before .load .ensures
+
+same-length-2 : tie.Need-same-length-2
+same-length-2 c = search needs
+
+returns-3 : tie.Need-returns-3
+returns-3 c =
+    let w = c .before .before .before .before .before .before .width-bytes .ensures in
+    let e = le-leb _ _ (rw w at (c .before .before .before .before .before .if1 .left)) in
     (rw e, rw e (c .before .before .load-both .ensures))
 
 pub load-halves-spec : {M : Type 1} → statement M
 load-halves-spec =
     tie.close
-    (tie.spec width-bytes-requires mul-end returns load-both-requires same-length returns-2)
+    (tie.spec
+    width-bytes-requires
+    mul-end
+    returns
+    load-requires
+    same-length
+    returns-2
+    load-both-requires
+    same-length-2
+    returns-3)

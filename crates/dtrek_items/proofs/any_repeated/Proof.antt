@@ -16,7 +16,7 @@ use Rattle.dtrek_items.proofs.insert.Reads as insert-reads
 use Rattle.dtrek_text.proofs.Cursor.item.Reads as item-reads
 
 abbrev Inv-loop : tie.InvT-loop
-Inv-loop text places₀ c₀ k₀ places c k = Keeping text places (c .at) k
+Inv-loop text places₀ c₀ k₀ places c k = Keeping text places₀ places (c .at) k
 
 abbrev μ-loop : tie.MeasureT-loop
 μ-loop text places₀ c₀ k₀ places c k = length text - c .at
@@ -32,12 +32,12 @@ enum-known-start c = search needs
 
 slice-reshare-prefix-find : tie.Need-slice-reshare-prefix-find Inv-loop μ-loop
 slice-reshare-prefix-find c =
-    let r = keeping-room (c .before .before .before .before .loop .inv) (found-stands (sym (c .before .start .given .1) ∙ c .before .before .before .item .ensures)) (omega arith) in
+    let r = keeping-room (c .before .before .before .before .loop .inv) (found-stands (sym (c .before .start .given .1) ∙ c .before .before .before .item .ensures)) in
     omega arith
 
 slice-aggregate-find : tie.Need-slice-aggregate-find Inv-loop μ-loop
 slice-aggregate-find c =
-    let r = keeping-room (c .before .before .before .before .before .loop .inv) (found-stands (sym (c .before .before .start .given .1) ∙ c .before .before .before .before .item .ensures)) (omega arith) in
+    let r = keeping-room (c .before .before .before .before .before .loop .inv) (found-stands (sym (c .before .before .start .given .1) ∙ c .before .before .before .before .item .ensures)) in
     sym (length-take-le _ _ (omega arith))
 
 sub-find : tie.Need-sub-find Inv-loop μ-loop
@@ -78,7 +78,7 @@ cast-insert c =
 insert-requires : tie.Need-insert-requires Inv-loop μ-loop
 insert-requires c κs =
     let l = c .before .before .before .before .before .before .before .before .before .before .before .loop in
-    let r = keeping-room (l .inv) (found-stands (sym (c .before .before .before .before .before .before .before .before .start .given .1) ∙ c .before .before .before .before .before .before .before .before .before .before .item .ensures)) (omega arith) in
+    let r = keeping-room (l .inv) (found-stands (sym (c .before .before .before .before .before .before .before .before .start .given .1) ∙ c .before .before .before .before .before .before .before .before .before .before .item .ensures)) in
     let w : Between _ (take (l .k) (l .places)) _ _ = rw (c .before .before .i .given .1) at (c .before .before .before .before .find .ensures) in
     (omega (arith, w .upto, length-take-le (l .k) (l .places) (omega arith)), r)
 
@@ -94,7 +94,7 @@ loop-again : tie.Need-loop-again Inv-loop μ-loop
 loop-again c =
     let l = c .before .before .before .before .before .before .before .before .before .before .before .before .before .before .loop in
     let w : Between _ (take (l .k) (l .places)) _ _ = rw (c .before .before .before .before .before .i .given .1) at (c .before .before .before .before .before .before .before .find .ensures) in
-    keeping-more (l .inv) (found-stands (sym (c .before .before .before .before .before .before .before .before .before .before .before .start .given .1) ∙ c .before .before .before .before .before .before .before .before .before .before .before .before .before .item .ensures)) (omega arith) w (c .before .before .insert .ensures)
+    keeping-more (l .inv) (found-stands (sym (c .before .before .before .before .before .before .before .before .before .before .before .start .given .1) ∙ c .before .before .before .before .before .before .before .before .before .before .before .before .before .item .ensures)) w (c .before .before .insert .ensures)
 
 enum-told-2 : tie.Need-enum-told-2 Inv-loop μ-loop
 enum-told-2 c = search needs
