@@ -3,6 +3,10 @@
 
 mod case;
 mod compare;
+mod dtrek;
+mod dtrek_cases;
+mod dtrek_file;
+mod dtrek_trials;
 mod fault;
 mod files;
 mod frame;
@@ -21,6 +25,7 @@ mod sample;
 mod tally;
 #[cfg(test)]
 mod trials;
+mod written_down;
 
 use case::{Case, Mutation};
 use fault::Fault;
@@ -31,9 +36,10 @@ use std::time::{Duration, Instant, SystemTime, UNIX_EPOCH};
 use tally::Tally;
 
 const USAGE: &str =
-    "second_reader compare [--seed N] [--seconds S] [--fault 1..4] [--case FILE] [--trace 1]\n\
-                     second_reader replay FILE [--fault 1..4]\n\
+    "second_reader compare [--seed N] [--seconds S] [--fault 1..5] [--case FILE] [--trace 1]\n\
+                     second_reader replay FILE [--fault 1..5]\n\
                      second_reader mar-trials\n\
+                     second_reader dtrek-trials\n\
                      second_reader expand FRAME PIXELS\n\
                      second_reader store HEADER PIXELS WIDTH UNDERFLOW FRAME";
 
@@ -186,6 +192,7 @@ fn run(words: &[&str]) -> Option<ExitCode> {
         ["compare", rest @ ..] => Some(run_compare(&options(rest)?)),
         ["replay", file, rest @ ..] => Some(run_replay(file, &options(rest)?)),
         ["mar-trials"] => Some(verdict(Ok(mar_trials::run()))),
+        ["dtrek-trials"] => Some(verdict(Ok(dtrek_trials::run()))),
         ["expand", frame, pixels] => Some(verdict(files::expand(frame, pixels))),
         ["store", header, pixels, width, underflow, frame] => {
             let form = (width.parse().ok()?, underflow.parse().ok()?);

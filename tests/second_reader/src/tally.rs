@@ -29,6 +29,9 @@ fn possible(call: Call) -> Vec<u64> {
         Call::Listing => vec![0, 1],
         Call::MarRead => vec![0, 1, 10, 11, 13, 28, 29],
         Call::MarEntry => vec![0, 1, 28, 29, 37],
+        Call::DtrekRead => vec![0, 1, 10, 11, 32, 33, 34, 35],
+        Call::DtrekHeader => vec![0, 1, 32, 33, 34, 35],
+        Call::DtrekItem => vec![0, 1, 32, 33],
         Call::List => Vec::new(),
     }
 }
@@ -85,18 +88,18 @@ impl Tally {
         self.print_sizes();
         print!("{:>8}", "refusal");
         let calls = &CALLS[..CALLS.len() - 1];
-        calls.iter().for_each(|(_, name)| print!("{name:>10}"));
+        calls.iter().for_each(|(_, name)| print!("{name:>11}"));
         println!();
-        for refusal in (0..=29).chain([37]) {
+        for refusal in (0..=29).chain(32..=35).chain([37]) {
             print!("{refusal:>8}");
             for (call, _) in calls {
                 match (
                     self.count(*call, refusal),
                     possible(*call).contains(&refusal),
                 ) {
-                    (0, false) => print!("{:>10}", "."),
-                    (0, true) => print!("{:>10}", "MISSED"),
-                    (count, _) => print!("{count:>10}"),
+                    (0, false) => print!("{:>11}", "."),
+                    (0, true) => print!("{:>11}", "MISSED"),
+                    (count, _) => print!("{count:>11}"),
                 }
             }
             println!();
