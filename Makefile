@@ -1,12 +1,13 @@
 # Daily work. `make test` is the gate; the rest eases the way there.
 .PHONY: test toolchain check must-fail fmt dev skeletons paths staticlib bench bench-docs clean
-.PHONY: deps-rust deps-peers deps-bench second-reader compare compare-short soak mar-trials faults peers compare-frames
+.PHONY: deps-rust deps-peers deps-bench second-reader compare compare-short soak mar-trials dtrek-trials faults peers compare-frames
 .PHONY: deps cli cli-test demo
 
 # What the gate runs after the proofs, in this order: targets of this file, one more line each.
 AFTER_PROOFS += staticlib
 AFTER_PROOFS += compare-short
 AFTER_PROOFS += mar-trials
+AFTER_PROOFS += dtrek-trials
 AFTER_PROOFS += cli-test
 
 # The whole gate: every crate proved from nothing, every must-fail edit refused, every program's output compared; then the rest
@@ -95,6 +96,10 @@ soak: second-reader
 # Fixed mar images against the answers written down in tests/second_reader/mar_trials.txt.
 mar-trials: second-reader
 	$(KEEP_MEMORY) $(SECOND_READER) mar-trials
+
+# The same for d*TREK images and dtrek_trials.txt.
+dtrek-trials: second-reader
+	$(KEEP_MEMORY) $(SECOND_READER) dtrek-trials
 
 # Five deliberate faults in copies of the library, which the comparison has to find.
 faults: deps-rust

@@ -107,13 +107,12 @@ impl Image {
         self.state("99840");
     }
 
-    /// The last bytes before the padding, which a long value leaves no room for.
-    fn fill(&mut self, behind: &[u8], less: usize) {
-        let room = BLOCK - self.text() - b"A=;\n".len() - less;
-        let value = "x".repeat(room);
+    /// A value so long that the header without its padding has this length, of which one block is left.
+    fn fill(&mut self, length: usize) {
+        let value = "x".repeat(length - self.text() - b"A=;\n".len());
         self.add(format!("A={value};\n").as_bytes());
-        let end = self.header.len() - behind.len();
-        self.header[end..].copy_from_slice(behind);
+        self.header.truncate(BLOCK);
+        self.length = BLOCK + self.shape.image_bytes();
     }
 
     fn file(&self) -> Vec<u8> {
@@ -324,7 +323,7 @@ const LENGTHS: [&str; 25] = [
     "512; ", "99841", "99999", "0512", "100352",
 ];
 
-const CHANGES: [(&str, Change); 61] = [
+const CHANGES: [(&str, Change); 64] = [
     ("as it is", |_| {}),
     ("no place to spare", |i| i.places -= SPARE),
     ("bytes behind", |i| i.length += 1000),
@@ -352,7 +351,6 @@ const CHANGES: [(&str, Change); 61] = [
     ("value of every byte but a semicolon", |i| {
         let bytes: Vec<u8> = (0..=255).filter(|byte| *byte != b';').collect();
         i.add(&[b"A=", bytes.as_slice(), b";\n"].concat());
-        i.state(" 1024");
     }),
     ("a keyword of each byte that may be in one", |i| {
         let bytes = (0..=255).filter(|byte| !EXCLUDED.contains(byte));
@@ -360,8 +358,8 @@ const CHANGES: [(&str, Change); 61] = [
         i.add(&items);
         i.state(" 1536");
     }),
-    ("no padding", |i| i.fill(b"", 0)),
-    ("one byte of padding", |i| i.fill(b"", 1)),
+    ("no padding", |i| i.fill(512)),
+    ("one byte of padding", |i| i.fill(511)),
     ("length 1024", |i| {
         i.header.resize(1024, b' ');
         i.length += 512;
@@ -418,14 +416,15 @@ const CHANGES: [(&str, Change); 61] = [
     }),
     ("tab in the middle of padding", |i| i.put(300, b'\t')),
     ("newline in the last byte of padding", |i| i.put(511, b'\n')),
-    ("last newline of the end past the header", |i| {
-        i.fill(b"}\n\x0C", 1)
+    ("one byte of the end past the header", |i| i.fill(513)),
+    ("all but the brace of the end past the header", |i| {
+        i.fill(515)
     }),
-    ("end of the header past it", |i| i.fill(b"int;", 0)),
-    ("512 stated for a longer header", |i| {
-        i.header.resize(1024, b' ');
-        i.put(511, b'x');
-        i.length += 512;
+    ("the end past the header", |i| i.fill(516)),
+    ("last newline past the header", |i| i.fill(517)),
+    ("last semicolon past the header", |i| i.fill(518)),
+    ("512 stated for a header of 1024", |i| {
+        i.add(format!("A={};\n", "x".repeat(500)).as_bytes());
     }),
     ("array one place short", |i| i.places -= SPARE + 1),
     ("no array", |i| i.places = 0),
@@ -586,7 +585,7 @@ fn items() -> [(&'static str, Image, Vec<u64>); 9] {
         (
             "no items",
             comment(b"A;\n=1;\nB =1;\n{C=1;\n}\n\x0C\n;\n"),
-            vec![21, 23, 27, 33, 39],
+            vec![21, 24, 28, 34, 40, 46],
         ),
         (
             "511 bytes",
