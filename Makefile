@@ -65,7 +65,7 @@ deps-rust:
 	@command -v cargo > /dev/null || tools/deps cargo-web rustc-web
 
 deps-peers: deps-rust
-	@tools/deps python3-fabio python3-numpy python3-matplotlib
+	@tools/deps python3-fabio python3-numpy python3-matplotlib cbflib-bin
 
 deps-bench: deps-peers
 	@command -v gcc > /dev/null || tools/deps gcc libc6-dev
@@ -105,7 +105,7 @@ dtrek-trials: second-reader
 faults: deps-rust
 	tests/second_reader/faults.sh
 
-# FabIO, Debian's reader and writer of the same format, beside the library (docs/PEERS.md).
+# FabIO and CBFlib, Debian's readers and writers of the same formats, beside the library (docs/PEERS.md).
 PYTHON := /usr/bin/python3 -B
 peers: deps-peers second-reader
 	$(PYTHON) tests/peers/peers.py $(SEED)

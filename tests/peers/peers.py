@@ -1,6 +1,6 @@
 #!/usr/bin/python3
-"""FabIO's frames read by the library and the library's by FabIO, pixel by pixel; mar files by both, part by part; then where FabIO departs from the
-published format."""
+"""FabIO's frames read by the library and the library's by FabIO, pixel by pixel; mar files by both, part by part; d*TREK images by both and by CBFlib; then
+where FabIO departs from the published formats."""
 import logging
 import pathlib
 import sys
@@ -10,6 +10,8 @@ from itertools import product
 import numpy
 
 import bruker
+import dtrek
+import dtrek_departures
 import mar
 from departures import DEPARTURES
 
@@ -156,9 +158,53 @@ def mar_unread(report, folder, random):
         report.note("no reader of FabIO reads a mar file", ", ".join(found))
 
 
+def dtrek_read(report, name, path, expected):
+    """The library, the second reader and FabIO."""
+    ours = dtrek.library_read(path)
+    pixels = ours.pixels if ours.refusal == 0 else f"refusal {ours.refusal}"
+    second = "" if ours.same else f"the second reader: {ours.text}"
+    report.note(name, first_difference(pixels, expected), second, first_difference(dtrek.fabio_read(path), expected))
+
+
+def dtrek_files(report, folder, random):
+    path = folder / "frame.img"
+    for kind, order, shape in product(dtrek.TYPES, "<>", [*SHAPES, (1, 4096), (4096, 1)]):
+        counts = dtrek.counts_of(random, shape, kind)
+        dtrek.fabio_write(path, counts.astype(kind), order, TITLE="a title", SATURATED_VALUE="1048544")
+        dtrek_read(report, f"FabIO writes d*TREK, {dtrek.TYPES[kind]}, {dtrek.ORDERS[order]}", path, counts)
+        dtrek.make(path, counts, kind, order)
+        dtrek_read(report, f"d*TREK by the page, {dtrek.TYPES[kind]}, {dtrek.ORDERS[order]}", path, counts)
+
+
+# Before a keyword, behind the equals sign, behind the value: white space that FabIO takes too.
+SPACES = ((" ", "= ", " "), ("\t", "=   ", "  "), ("\n\n ", "=", "   "))
+
+
+def dtrek_spaced(report, folder, random):
+    path = folder / "frame.img"
+    more = [("COMMENT", ""), ("DTREK_VERSION", "d*TREK version 9.4W"), ("dim", "3"), ("RAXIS_COMPRESSION_RATIO", "8"), ("COMPRESSION", "none")]
+    more += [(f"KEY_{at}", "x" * 50) for at in range(200)]
+    for kind, order, (before, after, behind) in product(dtrek.TYPES, "<>", SPACES):
+        counts = dtrek.counts_of(random, (31, 17), kind)
+        dtrek.make(path, counts, kind, order, more, before=before, after=after, behind=behind)
+        dtrek_read(report, "d*TREK by the page, with white space and 205 more items", path, counts)
+
+
+def dtrek_adsc(report, folder, random):
+    """CBFlib gives rows and columns exchanged, so that its pixels are compared in the file's order."""
+    path = folder / "frame.img"
+    for (kind, name), order, shape in product(dtrek.ADSC_TYPES.items(), "<>", [(3, 5), (64, 64), (512, 512), (700, 400)]):
+        counts = dtrek.counts_of(random, shape, kind, min(2 ** (8 * int(kind[1])), 2**31) - 1)
+        dtrek.make(path, counts, kind, order, [("TYPE", name)])
+        dtrek_read(report, f"d*TREK with ADSC's TYPE, {name}, {dtrek.ORDERS[order]}", path, counts)
+        found = dtrek.cbflib_read(path)
+        flat = found.reshape(shape) if isinstance(found, numpy.ndarray) and found.size == counts.size else found
+        report.note(f"CBFlib, {name}, {dtrek.ORDERS[order]}", first_difference(flat, counts))
+
+
 def departures(report, folder):
     print("\nWhere FabIO departs:")
-    for name, trial in DEPARTURES:
+    for name, trial in DEPARTURES + dtrek_departures.DEPARTURES:
         text = trial(folder / "frame")
         print(f"- {name}: {text}")
         report.note("departures as docs/PEERS.md has them", "" if text.startswith("as noted") else f"{name}: {text}")
@@ -173,7 +219,7 @@ def main():
     report = Report()
     with tempfile.TemporaryDirectory() as folder:
         folder = pathlib.Path(folder)
-        for trial in (fabio_86, fabio_100, library_100, mar_files, mar_unread):
+        for trial in (fabio_86, fabio_100, library_100, mar_files, mar_unread, dtrek_files, dtrek_spaced, dtrek_adsc):
             trial(report, folder, random)
         departures(report, folder)
     print()

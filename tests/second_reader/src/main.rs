@@ -27,7 +27,7 @@ mod tally;
 mod trials;
 mod written_down;
 
-use case::{Case, Mutation};
+use case::{Call, Case, Mutation};
 use fault::Fault;
 use plates::Plates;
 use random::Random;
@@ -41,6 +41,7 @@ const USAGE: &str =
                      second_reader mar-trials\n\
                      second_reader dtrek-trials\n\
                      second_reader expand FRAME PIXELS\n\
+                     second_reader expand-dtrek FILE PIXELS\n\
                      second_reader store HEADER PIXELS WIDTH UNDERFLOW FRAME";
 
 struct Options {
@@ -193,7 +194,10 @@ fn run(words: &[&str]) -> Option<ExitCode> {
         ["replay", file, rest @ ..] => Some(run_replay(file, &options(rest)?)),
         ["mar-trials"] => Some(verdict(Ok(mar_trials::run()))),
         ["dtrek-trials"] => Some(verdict(Ok(dtrek_trials::run()))),
-        ["expand", frame, pixels] => Some(verdict(files::expand(frame, pixels))),
+        ["expand", frame, pixels] => Some(verdict(files::expand(Call::Read, frame, pixels))),
+        ["expand-dtrek", file, pixels] => {
+            Some(verdict(files::expand(Call::DtrekRead, file, pixels)))
+        }
         ["store", header, pixels, width, underflow, frame] => {
             let form = (width.parse().ok()?, underflow.parse().ok()?);
             Some(verdict(files::store(header, pixels, form, frame)))
