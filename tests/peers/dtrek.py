@@ -47,9 +47,9 @@ def cbflib_read(path):
         packed.unlink(missing_ok=True), plain.unlink(missing_ok=True)
 
 
-def counts_of(random, shape, kind, most=None):
-    """Counts of every size that the type has, the least and the largest among them."""
-    most = most or 2 ** (8 * int(kind[1])) - 1
+def counts_of(random, shape, kind):
+    """Counts of every size that the type has, the largest among them."""
+    most = 2 ** (8 * int(kind[1])) - 1
     counts = random.integers(0, most, shape, dtype=numpy.int64, endpoint=True)
     flat = counts.ravel()
     flat[:3] = [most, 1, most // 2 + 1][:flat.size]

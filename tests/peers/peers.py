@@ -194,12 +194,12 @@ def dtrek_adsc(report, folder, random):
     """CBFlib gives rows and columns exchanged, so that its pixels are compared in the file's order."""
     path = folder / "frame.img"
     for (kind, name), order, shape in product(dtrek.ADSC_TYPES.items(), "<>", [(3, 5), (64, 64), (512, 512), (700, 400)]):
-        counts = dtrek.counts_of(random, shape, kind, min(2 ** (8 * int(kind[1])), 2**31) - 1)
-        dtrek.make(path, counts, kind, order, [("TYPE", name)])
-        dtrek_read(report, f"d*TREK with ADSC's TYPE, {name}, {dtrek.ORDERS[order]}", path, counts)
+        pixels = counts(random, shape, min(2 ** (8 * int(kind[1])), 2**31) - 1, 0)
+        dtrek.make(path, pixels, kind, order, [("TYPE", name)])
+        dtrek_read(report, f"d*TREK with ADSC's TYPE, {name}, {dtrek.ORDERS[order]}", path, pixels)
         found = dtrek.cbflib_read(path)
-        flat = found.reshape(shape) if isinstance(found, numpy.ndarray) and found.size == counts.size else found
-        report.note(f"CBFlib, {name}, {dtrek.ORDERS[order]}", first_difference(flat, counts))
+        flat = found.reshape(shape) if isinstance(found, numpy.ndarray) and found.size == pixels.size else found
+        report.note(f"CBFlib, {name}, {dtrek.ORDERS[order]}", first_difference(flat, pixels))
 
 
 def departures(report, folder):
