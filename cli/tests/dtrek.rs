@@ -1,6 +1,6 @@
 //! info, expand and view of d*TREK images, and the other commands given one, by the real command.
 mod common;
-use common::{folder, Folder};
+use common::{folder, only_read, Folder};
 use serde_json::{json, Value};
 
 /// Two rows of three pixels of two bytes, most significant first: 1 to 5 and 65535.
@@ -137,16 +137,5 @@ fn without_pixels_there_is_only_the_header() {
 
 #[test]
 fn other_commands_say_that_it_is_a_dtrek_image() {
-    let f = folder();
-    f.put("a.img", plain());
-    f.put("short.img", "{");
-    f.put("a.raw", [0; 4]);
-    let hint = "this is a d*TREK image, which only `info`, `view` and `expand` take";
-    let open = |file: &str| format!("open {file} --form 1 -o a");
-    let write = "write --header a.img --pixels a.raw --form 1 -o out";
-    for (words, number) in [(open("a.img"), 2), (open("short.img"), 1), (write.to_string(), 2)] {
-        let said = f.refused(&words, number);
-        assert!(said.contains(hint), "{said}");
-    }
-    assert!(!f.has("a.held") && !f.has("out"));
+    only_read(&plain(), b"{", "d*TREK");
 }

@@ -61,14 +61,19 @@ def field(path, line, index=0):
         return int(file.read(72).split()[index])
 
 
-def both_read(report, name, path, expected, width=1, underflow=None):
-    """The library, the second reader and FabIO read a file that has this form."""
-    found = field(path, 39), None if underflow is None else field(path, 39, 1)
-    report.note(name, "" if found == (width, underflow) else f"form {found}")
-    ours = bruker.library_read(path)
+def all_read(report, name, path, expected, readers):
+    """The library, the second reader and FabIO read a file by the functions of a module."""
+    ours = readers.library_read(path)
     pixels = ours.pixels if ours.refusal == 0 else f"refusal {ours.refusal}"
     second = "" if ours.same else f"the second reader: {ours.text}"
-    report.note(name, first_difference(pixels, expected), second, first_difference(bruker.fabio_read(path), expected))
+    report.note(name, first_difference(pixels, expected), second, first_difference(readers.fabio_read(path), expected))
+
+
+def both_read(report, name, path, expected, width=1, underflow=None):
+    """A frame that has this form, read by all."""
+    found = field(path, 39), None if underflow is None else field(path, 39, 1)
+    report.note(name, "" if found == (width, underflow) else f"form {found}")
+    all_read(report, name, path, expected, bruker)
 
 
 def fabio_86(report, folder, random):
@@ -158,22 +163,14 @@ def mar_unread(report, folder, random):
         report.note("no reader of FabIO reads a mar file", ", ".join(found))
 
 
-def dtrek_read(report, name, path, expected):
-    """The library, the second reader and FabIO."""
-    ours = dtrek.library_read(path)
-    pixels = ours.pixels if ours.refusal == 0 else f"refusal {ours.refusal}"
-    second = "" if ours.same else f"the second reader: {ours.text}"
-    report.note(name, first_difference(pixels, expected), second, first_difference(dtrek.fabio_read(path), expected))
-
-
 def dtrek_files(report, folder, random):
     path = folder / "frame.img"
     for kind, order, shape in product(dtrek.TYPES, "<>", [*SHAPES, (1, 4096), (4096, 1)]):
         counts = dtrek.counts_of(random, shape, kind)
         dtrek.fabio_write(path, counts.astype(kind), order, TITLE="a title", SATURATED_VALUE="1048544")
-        dtrek_read(report, f"FabIO writes d*TREK, {dtrek.TYPES[kind]}, {dtrek.ORDERS[order]}", path, counts)
+        all_read(report, f"FabIO writes d*TREK, {dtrek.TYPES[kind]}, {dtrek.ORDERS[order]}", path, counts, dtrek)
         dtrek.make(path, counts, kind, order)
-        dtrek_read(report, f"d*TREK by the page, {dtrek.TYPES[kind]}, {dtrek.ORDERS[order]}", path, counts)
+        all_read(report, f"d*TREK by the page, {dtrek.TYPES[kind]}, {dtrek.ORDERS[order]}", path, counts, dtrek)
 
 
 # Before a keyword, behind the equals sign, behind the value: white space that FabIO takes too.
@@ -187,7 +184,7 @@ def dtrek_spaced(report, folder, random):
     for kind, order, (before, after, behind) in product(dtrek.TYPES, "<>", SPACES):
         counts = dtrek.counts_of(random, (31, 17), kind)
         dtrek.make(path, counts, kind, order, more, before=before, after=after, behind=behind)
-        dtrek_read(report, "d*TREK by the page, with white space and 205 more items", path, counts)
+        all_read(report, "d*TREK by the page, with white space and 205 more items", path, counts, dtrek)
 
 
 def dtrek_adsc(report, folder, random):
@@ -196,7 +193,7 @@ def dtrek_adsc(report, folder, random):
     for (kind, name), order, shape in product(dtrek.ADSC_TYPES.items(), "<>", [(3, 5), (64, 64), (512, 512), (700, 400)]):
         pixels = counts(random, shape, min(2 ** (8 * int(kind[1])), 2**31) - 1, 0)
         dtrek.make(path, pixels, kind, order, [("TYPE", name)])
-        dtrek_read(report, f"d*TREK with ADSC's TYPE, {name}, {dtrek.ORDERS[order]}", path, pixels)
+        all_read(report, f"d*TREK with ADSC's TYPE, {name}, {dtrek.ORDERS[order]}", path, pixels, dtrek)
         found = dtrek.cbflib_read(path)
         flat = found.reshape(shape) if isinstance(found, numpy.ndarray) and found.size == pixels.size else found
         report.note(f"CBFlib, {name}, {dtrek.ORDERS[order]}", first_difference(flat, pixels))
