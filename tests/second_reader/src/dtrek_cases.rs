@@ -15,118 +15,26 @@ const CROWDED: u64 = 2500;
 const MANY: u64 = 50;
 
 /// Keywords beside those that are looked at.
+#[rustfmt::skip]
 const NEAR: [&str; 16] = [
-    "dim",
-    "DIM2",
-    "DI",
-    "SIZE",
-    "SIZE3",
-    "Size1",
-    "SIZE11",
-    "SIZE22",
-    "BYTE_ORDE",
-    "byte_order",
-    "data_type",
-    "DATA_TYPE",
-    "Compression",
-    "RAXIS_COMPRESSION_RATIO",
-    "HEADER_BYTE",
-    "_",
+    "dim", "DIM2", "DI", "SIZE", "SIZE3", "Size1", "SIZE11", "SIZE22", "BYTE_ORDE", "byte_order", "data_type",
+    "DATA_TYPE", "Compression", "RAXIS_COMPRESSION_RATIO", "HEADER_BYTE", "_",
 ];
 
 /// For each keyword that is looked at, what may stand as its value.
+#[rustfmt::skip]
 const CONTENTS: [(&str, &[&str]); 6] = [
-    (
-        "DIM",
-        &[
-            "2",
-            "02",
-            "0000000002",
-            "00000000002",
-            "4294967298",
-            "3",
-            "1",
-            "0",
-            "",
-            "2 2",
-            "+2",
-            "2.0",
-            "\r2",
-        ],
-    ),
+    ("DIM", &["2", "02", "0000000002", "00000000002", "4294967298", "3", "1", "0", "", "2 2", "+2", "2.0", "\r2"]),
     ("SIZE1", SIZES),
     ("SIZE2", SIZES),
-    (
-        "BYTE_ORDER",
-        &[
-            "little_endian",
-            "big_endian",
-            "Big_endian",
-            "LITTLE_ENDIAN",
-            "",
-            "little",
-            "big_endian.",
-            "big endian",
-            "big_endian\r",
-        ],
-    ),
-    (
-        "Data_type",
-        &[
-            "unsigned char",
-            "unsigned short int",
-            "unsigned long int",
-            "unsigned  char",
-            "Unsigned char",
-            "unsigned lont int",
-            "signed char",
-            "short int",
-            "long int",
-            "float IEEE",
-            "Compressed",
-            "Other_type",
-            "",
-            "unsigned",
-            "unsigned int",
-            "unsigned\tchar",
-        ],
-    ),
-    (
-        "COMPRESSION",
-        &[
-            "none",
-            "None",
-            "NONE",
-            "",
-            "non",
-            "none.",
-            "none none",
-            "Compressed",
-        ],
-    ),
+    ("BYTE_ORDER", &["little_endian", "big_endian", "Big_endian", "LITTLE_ENDIAN", "", "little", "big_endian.", "big endian", "big_endian\r"]),
+    ("Data_type", &["unsigned char", "unsigned short int", "unsigned long int", "unsigned  char", "Unsigned char", "unsigned lont int", "signed char", "short int", "long int", "float IEEE", "Compressed", "Other_type", "", "unsigned", "unsigned int", "unsigned\tchar"]),
+    ("COMPRESSION", &["none", "None", "NONE", "", "non", "none.", "none none", "Compressed"]),
 ];
+#[rustfmt::skip]
 const SIZES: &[&str] = &[
-    "0",
-    "00",
-    "1",
-    "2",
-    "4095",
-    "4096",
-    "4097",
-    "8192",
-    "65536",
-    "65537",
-    "4294967295",
-    "4294967296",
-    "4294967297",
-    "0000000003",
-    "00000000003",
-    "-1",
-    "",
-    "3 3",
-    "x",
-    "1.0",
-    "99999999999999999999",
+    "0", "00", "1", "2", "4095", "4096", "4097", "8192", "65536", "65537", "4294967295", "4294967296", "4294967297",
+    "0000000003", "00000000003", "-1", "", "3 3", "x", "1.0", "99999999999999999999",
 ];
 
 fn some(random: &mut Random, texts: &[&str]) -> Vec<u8> {
@@ -214,7 +122,7 @@ fn short_items(bytes: usize) -> Vec<Item> {
 /// How many bytes of items the header gets beside those that are looked at.
 fn crowd(random: &mut Random) -> usize {
     if random.once_in(CROWDED) {
-        return MOST_BYTES - BLOCK;
+        return MOST_BYTES - 4 * BLOCK;
     }
     match random.once_in(MANY) {
         true => random.index(4 * BLOCK),
@@ -268,32 +176,40 @@ fn stated(random: &mut Random, length: usize) -> Vec<u8> {
     }
 }
 
+/// White space put before keywords and around values.
+fn spread(random: &mut Random, items: &mut [Item]) {
+    for item in items {
+        let value = std::mem::take(&mut item.value);
+        item.before = white(random);
+        item.value = [white(random), value, white(random)].concat();
+    }
+}
+
 fn parts(random: &mut Random, shape: &Shape) -> Parts {
     let mut parts = Parts::new(shape);
     let others = random.pick(&[0, 0, 1, 3, 10]);
     parts.items.extend((0..others).map(|_| other_item(random)));
-    parts.items.extend(short_items(crowd(random)));
     if random.once_in(4) {
         parts.items.push(Item::new("COMPRESSION", "none"));
     }
-    random.shuffle(&mut parts.items);
     for _ in 0..random.pick(&[0, 0, 0, 0, 1, 1, 2]) {
         odd_content(random, &mut parts);
     }
-    if random.once_in(20) {
+    spread(random, &mut parts.items);
+    let crowd = short_items(crowd(random));
+    let once_in = if crowd.is_empty() { 20 } else { 3 };
+    parts.items.extend(crowd);
+    random.shuffle(&mut parts.items);
+    if random.once_in(once_in) {
         repeat(random, &mut parts);
     }
-    for item in &mut parts.items {
-        item.before = white(random);
-        item.value = [
-            white(random),
-            std::mem::take(&mut item.value),
-            white(random),
-        ]
-        .concat();
-    }
     parts.before_closing = white(random);
-    parts.least = BLOCK * random.pick(&[1, 1, 1, 1, 1, 2, 3, 20]);
+    let blocks = random.pick(&[1, 1, 1, 1, 1, 2, 3, 20]);
+    parts.least = if random.once_in(100) {
+        MOST_BYTES
+    } else {
+        BLOCK * blocks
+    };
     if random.once_in(8) {
         parts.stated = Some(stated(random, parts.header().len()));
     }
@@ -440,6 +356,16 @@ fn asked(random: &mut Random, file: &[u8], header: usize) -> u64 {
     }
 }
 
+/// What a run should have met.
+fn rare(shape: &Shape, header: usize) -> Option<&'static str> {
+    match (shape.pixels(), header) {
+        (0x100_0000, _) => Some("d*TREK images of 4096 x 4096"),
+        (_, 90_000..) => Some("d*TREK headers from 90,000 bytes on"),
+        (0, _) => Some("d*TREK images of no pixels"),
+        _ => None,
+    }
+}
+
 pub fn case(random: &mut Random, call: Call) -> Made {
     let shape = shape(random);
     let mut file = match random.below(12) {
@@ -458,6 +384,7 @@ pub fn case(random: &mut Random, call: Call) -> Made {
     let damage = (0..times).flat_map(|_| damage(random, &base, header, &shape));
     Made {
         size: None,
+        rare: rare(&shape, header),
         damage: damage.collect(),
         base,
     }

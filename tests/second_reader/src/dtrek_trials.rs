@@ -317,6 +317,7 @@ const SWAPS: [(&str, &str, &str); 109] = [
 ];
 
 /// The characters of the length in a file that has a header of 512 bytes.
+#[rustfmt::skip]
 const LENGTHS: [&str; 25] = [
     "  512", "512  ", " 512 ", "00512", "\t\t512", "512\n\n", "\n512\t", " 0512", "  511", "  513",
     "  256", "    0", "00000", "     ", "5 12 ", "+512 ", "-512 ", "512.0", "0x200", "\r 512",

@@ -509,6 +509,8 @@ fn listing_case(random: &mut Random, size: Size) -> Case {
 pub struct Made {
     /// None where the call looks at no frame.
     pub size: Option<Size>,
+    /// What else is counted.
+    pub rare: Option<&'static str>,
     pub base: Case,
     pub damage: Vec<Mutation>,
 }
@@ -559,6 +561,7 @@ pub fn case(random: &mut Random, number: u64) -> Made {
     let framed = !matches!(call, Call::Keep | Call::Purge | Call::Listing);
     Made {
         size: framed.then_some(size),
+        rare: None,
         base,
         damage,
     }

@@ -128,6 +128,7 @@ fn next(
     }
     let made = generate::case(random, number);
     tally.add_size(made.size);
+    tally.add_rare(made.rare);
     agree(options, tally, &made.base, made.damage)
 }
 

@@ -10,6 +10,7 @@ pub struct Tally {
     sizes: BTreeMap<Size, u64>,
     /// Whole mar images by their side.
     plates: BTreeMap<usize, u64>,
+    rare: BTreeMap<&'static str, u64>,
     met: BTreeMap<(Call, u64), u64>,
 }
 
@@ -52,6 +53,13 @@ impl Tally {
         }
     }
 
+    /// Counts a case by what is rare about it.
+    pub fn add_rare(&mut self, rare: Option<&'static str>) {
+        if let Some(name) = rare {
+            *self.rare.entry(name).or_default() += 1;
+        }
+    }
+
     /// Counts a case of a whole mar image.
     pub fn add_plate(&mut self, side: usize) {
         *self.plates.entry(side).or_default() += 1;
@@ -78,6 +86,9 @@ impl Tally {
         self.plates
             .iter()
             .for_each(|(side, count)| println!("mar images of {side} x {side}: {count}"));
+        self.rare
+            .iter()
+            .for_each(|(name, count)| println!("{name}: {count}"));
     }
 
     pub fn print(&self) {
