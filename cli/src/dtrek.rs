@@ -117,7 +117,8 @@ impl Header {
         };
         let lead =
             format!("{name}: d*TREK image, {what}\n  header {start} bytes, image ends at byte {end} of {length}");
-        self.items.iter().fold(lead, |text, item| format!("{text}\n  {}={}", item.keyword, item.value))
+        let lines = self.items.iter().map(|item| format!("\n  {}={}", item.keyword, item.value));
+        [lead].into_iter().chain(lines).collect()
     }
 
     /// The same for `--json`.
