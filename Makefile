@@ -1,6 +1,6 @@
 # Daily work. `make test` is the gate; the rest eases the way there.
 .PHONY: test toolchain check must-fail fmt dev skeletons paths staticlib bench bench-docs clean
-.PHONY: deps-rust deps-peers deps-bench second-reader compare compare-short soak mar-trials dtrek-trials faults peers compare-frames
+.PHONY: deps-rust deps-peers deps-dxtbx deps-bench second-reader compare compare-short soak mar-trials dtrek-trials faults peers compare-frames
 .PHONY: deps cli cli-test demo
 
 # What the gate runs after the proofs, in this order: targets of this file, one more line each.
@@ -65,7 +65,11 @@ deps-rust:
 	@command -v cargo > /dev/null || tools/deps cargo-web rustc-web
 
 deps-peers: deps-rust
-	@tools/deps python3-fabio python3-numpy python3-matplotlib cbflib-bin
+	@tools/deps python3-fabio python3-numpy python3-matplotlib
+
+# dxtbx, which is part of Debian's python3-cctbx, and CBFlib's programs: other readers of d*TREK images.
+deps-dxtbx:
+	@tools/deps python3-cctbx cbflib-bin
 
 deps-bench: deps-peers
 	@command -v gcc > /dev/null || tools/deps gcc libc6-dev
@@ -105,9 +109,9 @@ dtrek-trials: second-reader
 faults: deps-rust
 	tests/second_reader/faults.sh
 
-# FabIO and CBFlib, Debian's readers and writers of the same formats, beside the library (docs/PEERS.md).
+# FabIO, dxtbx and CBFlib, Debian's readers and writers of the same formats, beside the library (docs/PEERS.md).
 PYTHON := /usr/bin/python3 -B
-peers: deps-peers second-reader
+peers: deps-peers deps-dxtbx second-reader
 	$(PYTHON) tests/peers/peers.py $(SEED)
 
 # Every file in frames/ read by the library, by the second reader and by FabIO.

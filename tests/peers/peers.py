@@ -1,5 +1,5 @@
 #!/usr/bin/python3
-"""FabIO's frames read by the library and the library's by FabIO, pixel by pixel; mar files by both, part by part; d*TREK images by both and by CBFlib; then
+"""FabIO's frames read by the library and the library's by FabIO, pixel by pixel; mar files by both, part by part; d*TREK images by both, by dxtbx and by CBFlib; then
 where FabIO departs from the published formats."""
 import logging
 import pathlib
@@ -13,6 +13,7 @@ import bruker
 import dtrek
 import dtrek_departures
 import mar
+import rigaku
 from departures import DEPARTURES
 
 SHAPES = [(1, 1), (1, 7), (3, 5), (64, 65), (512, 512), (2048, 2048)]
@@ -199,6 +200,30 @@ def dtrek_adsc(report, folder, random):
         report.note(f"CBFlib, {name}, {dtrek.ORDERS[order]}", first_difference(flat, pixels))
 
 
+def dtrek_rigaku(report, folder, random):
+    """Files by the page and by FabIO, with the items that dxtbx wants."""
+    for detector, shape in product(rigaku.DETECTORS, [(1, 1), (3, 5), (64, 65), (512, 512), (619, 487)]):
+        items = rigaku.items_of(detector, shape)
+        for order, writer in product(detector.orders, ("page", "FabIO")):
+            path = folder / f"{detector.reader}_{shape[0]}_{dtrek.ORDERS[order]}_{writer}_0001.img"
+            pixels = dtrek.counts_of(random, shape, detector.kind) % 2**31
+            if writer == "page":
+                dtrek.make(path, pixels, detector.kind, order, items)
+            else:
+                dtrek.fabio_write(path, pixels.astype(detector.kind), order, **dict(items))
+            name = f"d*TREK by {writer}, for {detector.reader}, {dtrek.ORDERS[order]}"
+            all_read(report, name, path, pixels, dtrek)
+            report.note(name, first_difference(rigaku.dxtbx_read(path, detector), pixels))
+
+
+def dtrek_rigaku_order(report, folder, random):
+    path, pixels = folder / "turned_0001.img", dtrek.counts_of(random, (5, 7), "u4") % 2**31
+    dtrek.make(path, pixels, "u4", ">", rigaku.items_of(rigaku.PILATUS, pixels.shape))
+    all_read(report, "d*TREK for a Pilatus, big_endian", path, pixels, dtrek)
+    turned = pixels.astype(">u4").view("<i4").astype(numpy.int64)
+    report.note("dxtbx reads big_endian pixels of a Pilatus as little_endian", first_difference(rigaku.dxtbx_read(path, rigaku.PILATUS), turned))
+
+
 def departures(report, folder):
     print("\nWhere FabIO departs:")
     for name, trial in DEPARTURES + dtrek_departures.DEPARTURES:
@@ -216,7 +241,7 @@ def main():
     report = Report()
     with tempfile.TemporaryDirectory() as folder:
         folder = pathlib.Path(folder)
-        for trial in (fabio_86, fabio_100, library_100, mar_files, mar_unread, dtrek_files, dtrek_spaced, dtrek_adsc):
+        for trial in (fabio_86, fabio_100, library_100, mar_files, mar_unread, dtrek_files, dtrek_spaced, dtrek_adsc, dtrek_rigaku, dtrek_rigaku_order):
             trial(report, folder, random)
         departures(report, folder)
     print()
