@@ -567,7 +567,7 @@ fn items() -> [(&'static str, Image, Vec<u64>); 9] {
     let comment = |text: &[u8]| changed(|image| image.add(text));
     let plain = changed(|_| {});
     let starts = vec![1, 21, 28, 37, 46, 69, 99];
-    let none = vec![511, 512, 513, u64::MAX];
+    let none = vec![511, 512, 513, (1 << 32) + 1, u64::MAX];
     [
         ("an image", plain.clone(), starts),
         ("no item left", plain.clone(), none),
