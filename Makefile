@@ -1,12 +1,13 @@
 # Daily work. `make test` is the gate; the rest eases the way there.
 .PHONY: test toolchain check must-fail fmt dev skeletons paths staticlib bench bench-docs clean
-.PHONY: deps-rust deps-peers deps-bench second-reader compare compare-short soak mar-trials faults peers compare-frames
+.PHONY: deps-rust deps-peers deps-dxtbx deps-bench second-reader compare compare-short soak mar-trials dtrek-trials faults peers compare-frames
 .PHONY: deps cli cli-test demo
 
 # What the gate runs after the proofs, in this order: targets of this file, one more line each.
 AFTER_PROOFS += staticlib
 AFTER_PROOFS += compare-short
 AFTER_PROOFS += mar-trials
+AFTER_PROOFS += dtrek-trials
 AFTER_PROOFS += cli-test
 
 # The whole gate: every crate proved from nothing, every must-fail edit refused, every program's output compared; then the rest
@@ -66,6 +67,10 @@ deps-rust:
 deps-peers: deps-rust
 	@tools/deps python3-fabio python3-numpy python3-matplotlib
 
+# dxtbx, which is part of Debian's python3-cctbx, and CBFlib's programs: other readers of d*TREK images.
+deps-dxtbx:
+	@tools/deps python3-cctbx cbflib-bin
+
 deps-bench: deps-peers
 	@command -v gcc > /dev/null || tools/deps gcc libc6-dev
 	@command -v clang > /dev/null || tools/deps clang
@@ -96,13 +101,17 @@ soak: second-reader
 mar-trials: second-reader
 	$(KEEP_MEMORY) $(SECOND_READER) mar-trials
 
+# The same for d*TREK images and dtrek_trials.txt.
+dtrek-trials: second-reader
+	$(KEEP_MEMORY) $(SECOND_READER) dtrek-trials
+
 # Five deliberate faults in copies of the library, which the comparison has to find.
 faults: deps-rust
 	tests/second_reader/faults.sh
 
-# FabIO, Debian's reader and writer of the same format, beside the library (docs/PEERS.md).
+# FabIO, dxtbx and CBFlib, Debian's readers and writers of the same formats, beside the library (docs/PEERS.md).
 PYTHON := /usr/bin/python3 -B
-peers: deps-peers second-reader
+peers: deps-peers deps-dxtbx second-reader
 	$(PYTHON) tests/peers/peers.py $(SEED)
 
 # Every file in frames/ read by the library, by the second reader and by FabIO.

@@ -2,6 +2,7 @@
 #include "frames.h"
 #include "plain_mar.h"
 #include "quayrudder.h"
+#include "turns.h"
 #include <stdio.h>
 #include <stdlib.h>
 #include <string.h>
@@ -44,7 +45,8 @@ static mar_file make_mar(unsigned side, int big, size_t n_pairs) {
     return (mar_file){ bytes, length, { image, pairs, n, n_pairs, big } };
 }
 
-static int run(int who, const mar_file *f, uint32_t *px) {
+static int run(int who, const void *file, uint32_t *px) {
+    const mar_file *f = file;
     if (who == 0) return gcc_read_mar(&f->plain, px);
     if (who == 1) return clang_read_mar(&f->plain, px);
     if (who == 2) return (int)qr_mar_read(f->bytes, f->length, px, f->plain.pixels).refusal;
@@ -52,39 +54,16 @@ static int run(int who, const mar_file *f, uint32_t *px) {
     return 0;
 }
 
-/* Each in turn; pixels are compared with those expected, if any are given. The answer: 0, or a refusal, or 99 where pixels differ. */
-static int turn(const mar_file *f, uint32_t *px, const uint32_t *expected, double best[4]) {
-    int wrong = 0;
-    for (int who = 0; who < 4; who++) {
-        double t = now();
-        wrong |= run(who, f, px);
-        t = now() - t;
-        if (t < best[who]) best[who] = t;
-        if (expected && who < 3 && memcmp(px, expected, 4 * f->plain.pixels)) wrong = 99;
-    }
-    return wrong;
-}
-
 static void row(unsigned side, int big, size_t n_pairs) {
     mar_file f = make_mar(side, big, n_pairs);
-    size_t n = f.plain.pixels;
-    uint32_t *px = malloc(n * 4), *expected = malloc(n * 4);
-    double best[4] = { 1e9, 1e9, 1e9, 1e9 };
-    int wrong = gcc_read_mar(&f.plain, expected);
-    /* compared in the first round only, as bench.c says */
-    for (int round = 0; round < ROUNDS && !wrong; round++) wrong = turn(&f, px, round ? 0 : expected, best);
-    double faster = best[0] < best[1] ? best[0] : best[1];
-    printf("| read mar, %s-endian, %s pairs | %4u | %6.3f | %6.3f | %6.3f | %6.3f | %5.2f |%s\n", big ? "big" : "little",
-           n_pairs ? "4,000" : "no", side, best[0] * 1e9 / n, best[1] * 1e9 / n, best[2] * 1e9 / n, best[3] * 1e9 / n, best[2] / faster,
-           wrong ? " WRONG" : "");
-    fflush(stdout);
-    free(px), free(expected), free(f.bytes);
-    if (wrong) exit(1);
+    char name[64];
+    snprintf(name, sizeof name, "read mar, %s-endian, %s pairs", big ? "big" : "little", n_pairs ? "4,000" : "no");
+    print_row(name, side, run, &f, f.plain.pixels, ROUNDS);
+    free(f.bytes);
 }
 
 int main(void) {
-    puts("| file | side | gcc -O3, ns/pixel | clang -O3 | quayrudder | memcpy of the image | ratio to the faster |");
-    puts("|---|---|---|---|---|---|---|");
+    print_head();
     for (int k = 0; k < 8; k++) row(k < 4 ? 1200 : 2000, k / 2 % 2, k % 2 ? PAIRS : 0);
     return 0;
 }

@@ -58,20 +58,22 @@ def listing(axes, tables):
     panel(axes, "listing, 4,096 lines: ns/line", [cells[0].removeprefix("list, ") for cells in found], series)
 
 
-def mar(axes, tables):
-    found = rows(tables["mar"], lambda cells: cells[0].startswith("read mar,"))
+def images(axes, title, word, found):
+    """Whole images of another format."""
     column = lambda index: [float(cells[index]) for cells in found]
     series = [(GCC, column(2)), (CLANG, column(3)), (OURS, column(4)), (COPY, column(5))]
-    panel(axes, "mar reading: ns/pixel", [f"{cells[0].removeprefix('read mar, ')}, {cells[1]}" for cells in found], series)
+    panel(axes, title, [f"{cells[0].removeprefix(word)}, {cells[1]}" for cells in found], series)
     axes.set_xscale("linear")
     axes.set_xlim(left=0)
 
 
 def draw(tables, path):
-    figure, axes = pyplot.subplot_mosaic("ab;cd;ee", figsize=(13, 12.5), layout="constrained")
+    figure, axes = pyplot.subplot_mosaic("ab;cd;ef", figsize=(13, 12.5), layout="constrained")
     frames(axes["a"], "reading, side 1024: ns/pixel", "read", tables, "reading")
     frames(axes["b"], "writing, side 1024: ns/pixel", "write", tables, "writing")
     held(axes["c"], tables)
     listing(axes["d"], tables)
-    mar(axes["e"], tables)
+    images(axes["e"], "mar reading: ns/pixel", "read mar, ", rows(tables["mar"], lambda cells: cells[0].startswith("read mar,")))
+    of_1024 = rows(tables["dtrek"], lambda cells: cells[1] == "1024")
+    images(axes["f"], "d*TREK reading, side 1024: ns/pixel", "read d*TREK, ", of_1024)
     figure.savefig(path, dpi=110)

@@ -84,6 +84,8 @@ RUNS = {
     "held": lambda build: {"held": held_part(run(build, "held"))},
     "listing": lambda build: {"listing": part(run(build, "listing"), "list", 6, 1.0)},
     "mar": lambda build: {"mar": part(run(build, "mar"), "read", 6, 1.0)},
+    "dtrek": lambda build: {"dtrek": part(run(build, "dtrek"), "read", 6, 1.0)},
+    "dtrek_header": lambda build: {"dtrek_header": "\n".join(run(build, "dtrek_header"))},
     "fabio": fabio_table,
 }
 

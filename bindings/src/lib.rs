@@ -86,6 +86,37 @@ pub struct MarEntryAnswer {
     pub bits: u32,
 }
 
+/// What an accepted d*TREK header says; where it is refused, every field but `refusal` is 0.
+#[repr(C)]
+#[derive(Clone, Copy, Debug, PartialEq, Eq)]
+pub struct DtrekHeaderAnswer {
+    pub refusal: u32,
+    /// The header's length: the image starts there.
+    pub start: u32,
+    pub rows: u32,
+    pub columns: u32,
+    /// Bytes per pixel.
+    pub width: u32,
+    /// 1 where the most significant byte of a pixel comes first.
+    pub big_endian: u32,
+    /// The byte after the last pixel.
+    pub end: u64,
+}
+
+/// Where the keyword and the value of a d*TREK header's item stand. `found` is 0 where no item is left.
+#[repr(C)]
+#[derive(Clone, Copy, Debug, PartialEq, Eq)]
+pub struct DtrekItemAnswer {
+    pub refusal: u32,
+    pub found: u32,
+    pub key_start: u64,
+    pub key_end: u64,
+    pub value_start: u64,
+    pub value_end: u64,
+    /// Where the next item is read on.
+    pub next: u64,
+}
+
 /// A pixel width of 1, 2 or 4 bytes, and 0 for underflow kind none or the bytes of an underflow entry.
 #[derive(Clone, Copy, Debug, PartialEq, Eq)]
 pub struct Form {
@@ -101,7 +132,8 @@ pub struct Date {
 }
 
 mod c {
-    use super::{HeaderAnswer, LedgerAnswer, ListAnswer, MarEntryAnswer, OpenAnswer, ReadAnswer, WriteAnswer};
+    use super::{DtrekHeaderAnswer, DtrekItemAnswer, HeaderAnswer, LedgerAnswer};
+    use super::{ListAnswer, MarEntryAnswer, OpenAnswer, ReadAnswer, WriteAnswer};
 
     #[rustfmt::skip]
     extern "C" {
@@ -131,6 +163,9 @@ mod c {
         pub fn qr_list(ledger: *const u8, ledger_len: usize, out: *mut u8, out_len: usize) -> ListAnswer;
         pub fn qr_mar_read(file: *const u8, file_len: usize, pixels: *mut u32, pixels_len: usize) -> ReadAnswer;
         pub fn qr_mar_entry(file: *const u8, file_len: usize, entry: u32) -> MarEntryAnswer;
+        pub fn qr_dtrek_read(file: *const u8, file_len: usize, pixels: *mut u32, pixels_len: usize) -> ReadAnswer;
+        pub fn qr_dtrek_header(file: *const u8, file_len: usize) -> DtrekHeaderAnswer;
+        pub fn qr_dtrek_item(file: *const u8, file_len: usize, at: u64) -> DtrekItemAnswer;
     }
 }
 
@@ -203,4 +238,19 @@ pub fn mar_read(file: &[u8], pixels: &mut [u32]) -> ReadAnswer {
 /// The header entry of a mar image with this number, from 1 to 25.
 pub fn mar_entry(file: &[u8], entry: u32) -> MarEntryAnswer {
     unsafe { c::qr_mar_entry(file.as_ptr(), file.len(), entry) }
+}
+
+/// Reads a d*TREK image.
+pub fn dtrek_read(file: &[u8], pixels: &mut [u32]) -> ReadAnswer {
+    unsafe { c::qr_dtrek_read(file.as_ptr(), file.len(), pixels.as_mut_ptr(), pixels.len()) }
+}
+
+/// What the header of a d*TREK image says.
+pub fn dtrek_header(file: &[u8]) -> DtrekHeaderAnswer {
+    unsafe { c::qr_dtrek_header(file.as_ptr(), file.len()) }
+}
+
+/// The item of a d*TREK header that is read on from this byte: 1 for the first, then `next` of the last answer.
+pub fn dtrek_item(file: &[u8], at: u64) -> DtrekItemAnswer {
+    unsafe { c::qr_dtrek_item(file.as_ptr(), file.len(), at) }
 }

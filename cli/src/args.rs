@@ -23,17 +23,17 @@ pub struct Cli {
 
 #[derive(Subcommand)]
 pub enum Command {
-    /// Say what frames and mar images are: format, size, form, counts and end, or why they are refused
+    /// Say what frames, mar images and d*TREK images are: format, size, form, counts and end, or why they are refused
     #[command(after_help = "Example:\n  quayrudder info lysozyme_01_0001.sfrm")]
     Info {
-        /// The frames or mar images
+        /// The frames or images
         #[arg(required = true, value_name = "FRAME")]
         frames: Vec<PathBuf>,
     },
-    /// Write the counts of a frame or mar image as .npy, .raw (32 bits, least significant byte first) or .pgm (16 bits)
+    /// Write the counts of a frame or image as .npy, .raw (32 bits, least significant byte first) or .pgm (16 bits)
     #[command(after_help = "Example:\n  quayrudder expand lysozyme_01_0001.sfrm -o counts.npy")]
     Expand(Expand),
-    /// Make a picture of a frame or mar image to look at
+    /// Make a picture of a frame or image to look at
     #[command(after_help = "Example:\n  quayrudder view lysozyme_01_0001.sfrm -o look.png --log")]
     View(View),
     /// Write a frame of FORMAT 100 from a header, counts and a form
@@ -100,7 +100,7 @@ pub enum Command {
 
 #[derive(Args)]
 pub struct Expand {
-    /// The frame or mar image
+    /// The frame or image
     pub frame: PathBuf,
     /// The file to write; its ending says how: .npy, .raw or .pgm
     #[arg(short, long, value_name = "OUT")]
@@ -115,7 +115,7 @@ pub struct Expand {
 
 #[derive(Args)]
 pub struct View {
-    /// The frame or mar image
+    /// The frame or image
     pub frame: PathBuf,
     /// The picture to write, a .png
     #[arg(short, long, value_name = "OUT.png")]

@@ -1,5 +1,6 @@
-//! The commands on frames and mar images: info, expand, view; and on frames alone: write.
+//! The commands on frames, mar images and d*TREK images: info, expand, view; and on frames alone: write.
 use crate::args::{Expand, View, Write};
+use crate::dtrek;
 use crate::failure::{shown, Failure, Outcome, Refused};
 use crate::files;
 use crate::mar;
@@ -10,7 +11,7 @@ use quayrudder::{Form, HeaderAnswer, ReadAnswer};
 use serde_json::{json, Value};
 use std::path::{Path, PathBuf};
 
-/// A frame or a mar image that the library accepts.
+/// A frame or an image that the library accepts.
 struct Frame {
     kind: Kind,
     counts: Counts,
@@ -21,6 +22,7 @@ struct Frame {
 enum Kind {
     Bruker(HeaderAnswer),
     Mar(mar::Entries),
+    Dtrek(dtrek::Header),
 }
 
 /// An accepted header, or its refusal.
@@ -37,10 +39,15 @@ pub fn refused(file: &Path, bytes: &[u8], number: u32, place: u32, column: u32) 
     let note = match number {
         3 => format!("header line {place} has `{}`", line_text(bytes, place as usize)),
         13 => format!("entry {place}, counted from 0"),
-        _ if mar::is_mar(bytes) => "this is a mar image, which only `info`, `view` and `expand` take".to_string(),
+        _ if mar::is_mar(bytes) => only_read("mar"),
+        _ if dtrek::is_dtrek(bytes) => only_read("d*TREK"),
         _ => String::new(),
     };
     Failure::Refused(Refused { file: file.into(), number, place, column, note, said: sentence(number) })
+}
+
+fn only_read(format: &str) -> String {
+    format!("this is a {format} image, which only `info`, `view` and `expand` take")
 }
 
 fn line_text(bytes: &[u8], line: usize) -> String {
@@ -60,7 +67,13 @@ pub fn most_bytes(header: &HeaderAnswer) -> usize {
 
 fn read(file: &Path) -> Outcome<Frame> {
     let bytes = files::read(file)?;
-    let (kind, pixels, answer) = if mar::is_mar(&bytes) { read_mar(file, &bytes)? } else { read_bruker(file, &bytes)? };
+    let (kind, pixels, answer) = if mar::is_mar(&bytes) {
+        read_mar(file, &bytes)?
+    } else if dtrek::is_dtrek(&bytes) {
+        read_dtrek(file, &bytes)?
+    } else {
+        read_bruker(file, &bytes)?
+    };
     let counts = Counts { rows: answer.rows, columns: answer.columns, pixels };
     Ok(Frame { kind, counts, length: bytes.len() as u64, end: answer.end })
 }
@@ -85,6 +98,25 @@ fn read_mar(file: &Path, bytes: &[u8]) -> Outcome<(Kind, Vec<u32>, ReadAnswer)> 
     }
 }
 
+fn read_dtrek(file: &Path, bytes: &[u8]) -> Outcome<(Kind, Vec<u32>, ReadAnswer)> {
+    let header = dtrek::header(file, bytes)?;
+    let mut pixels = vec![0; header.pixel_count()];
+    let answer = quayrudder::dtrek_read(bytes, &mut pixels);
+    match answer.refusal {
+        0 => Ok((Kind::Dtrek(header), pixels, answer)),
+        number => Err(dtrek::refused(file, bytes, number)),
+    }
+}
+
+/// The counts of a frame or an image that has any.
+fn counts(file: &Path) -> Outcome<Counts> {
+    let counts = read(file)?.counts;
+    match counts.pixels.is_empty() {
+        true => Err(Failure::declined(file, "has no pixels: it is a header alone, which `info` shows")),
+        false => Ok(counts),
+    }
+}
+
 pub fn info(output: &mut Output, frames: &[PathBuf]) -> Outcome<()> {
     for file in frames {
         match read(file) {
@@ -102,6 +134,7 @@ fn say_info(output: &mut Output, file: &Path, frame: &Frame) -> Outcome<()> {
             output.say(&info_text(file, header, end, length), &info_value(file, header, end, length))
         }
         Kind::Mar(entries) => output.say(&entries.text(file, end, length), &entries.value(file, end, length)),
+        Kind::Dtrek(header) => output.say(&header.text(file, end, length), &header.value(file, end, length)),
     }
 }
 
@@ -152,7 +185,7 @@ pub fn expand(output: &mut Output, asked: &Expand) -> Outcome<()> {
         let why = format!("`{}` must end in .npy, .raw or .pgm", shown(&asked.output));
         return Err(Failure::Usage(why));
     }
-    let counts = read(&asked.frame)?.counts;
+    let counts = counts(&asked.frame)?;
     let bytes = match ending {
         "npy" => pixels::npy(&counts),
         "raw" => pixels::raw(&counts.pixels),
@@ -171,7 +204,7 @@ pub fn view(output: &mut Output, asked: &View) -> Outcome<()> {
     if asked.min.zip(asked.max).is_some_and(|(min, max)| min >= max) {
         return Err(Failure::Usage("--min must be below --max".into()));
     }
-    let counts = read(&asked.frame)?.counts;
+    let counts = counts(&asked.frame)?;
     let (black, white) = pixels::limits(&counts.pixels, asked.min, asked.max);
     let picture = pixels::png(&asked.output, &counts, (black, white), asked.log)?;
     files::output(&asked.output, &picture, asked.force)?;

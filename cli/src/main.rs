@@ -2,6 +2,7 @@
 #![forbid(unsafe_code)]
 
 mod args;
+mod dtrek;
 mod failure;
 mod files;
 mod frames;

@@ -11,7 +11,7 @@ const fn say(meaning: &'static str, advice: &'static str) -> Sentence {
 }
 
 #[rustfmt::skip]
-const SENTENCES: [Sentence; 29] = [
+const SENTENCES: [Sentence; 38] = [
     say("the bytes end within the header", "Compare the file's size with its copy: it is cut short, or it is no frame."),
     say("a name of header lines 0 to 2 is wrong", "Check that this is a Bruker frame: it starts with `FORMAT :`."),
     say("a header field is missing or is no number of one to ten digits", "Compare the header line with another frame of the series."),
@@ -41,9 +41,16 @@ const SENTENCES: [Sentence; 29] = [
     say("the keep date is not before the day asked", "Ask again for a day after the keep date."),
     say("the first number is neither 1200 nor 2000", "Check that this is an uncompressed mar image."),
     say("the sizes in the mar header do not fit together", "Entry 2 must be entry 1, entry 3 twice that, and entry 6 the records that the pairs of entry 5 fill: take another copy of the image."),
+    say("the underflow buffer is too short for the entries", "Lend as many bytes as the frame's underflow entries take without padding."),
+    say("the last standing line is a keep date, not a correction", "Look at the lines with `quayrudder list`: only a correction can be amended."),
+    say("the header's start or its length is wrong", "Check that this is a d*TREK image: it starts with `{`, a newline, `HEADER_BYTES=`, five characters with a multiple of 512 up to 99840, and a semicolon. A transfer as text may have changed its line ends."),
+    say("the header's syntax is broken, its end or padding is wrong, or a keyword stands twice", "Compare the header with another image of the series: items are `KEYWORD=value;`, each followed by a newline, and after the closing brace there are a newline, a form feed, a newline and then only spaces."),
+    say("a required keyword is missing or has another content", "Look at DIM (2), SIZE1 and SIZE2 (1 to 4096, or both 0), BYTE_ORDER (big_endian or little_endian) and Data_type."),
+    say("the pixels are of a type that is not read, or compressed", "Only unsigned char, unsigned short int and unsigned long int without compression are read: look at Data_type and COMPRESSION."),
+    say("the array for the tenths is too short", "Lend as many places as the frame has pixels."),
+    say("a mar header has no such entry", "Entries are numbered from 1 to 25."),
+    say("the header buffer is too short", "Lend 32,768 bytes for the header."),
 ];
-
-const NO_SUCH_ENTRY: Sentence = say("a mar header has no such entry", "Entries are numbered from 1 to 25.");
 
 // What else is said of a mar image.
 const MAR_TRUNCATED: Sentence = say(
@@ -59,15 +66,18 @@ const MAR_BAD_PAIR: Sentence = say(
     "The high-intensity records are damaged: take another copy of the image.",
 );
 
+// And of a d*TREK image.
+const DTREK_TRUNCATED: Sentence =
+    say("the bytes end within the header", "Compare the file's size with its copy: it is cut short.");
+const DTREK_DATA_TRUNCATED: Sentence =
+    say("the bytes end before the image does", "Compare the file's size with its copy: it is cut short.");
+
 const UNKNOWN: Sentence =
     say("the library gives a number that this command does not know", "Build command and library of the same state.");
 
 pub fn sentence(number: u32) -> &'static Sentence {
     let place = (number as usize).wrapping_sub(1);
-    match number {
-        37 => &NO_SUCH_ENTRY,
-        _ => SENTENCES.get(place).unwrap_or(&UNKNOWN),
-    }
+    SENTENCES.get(place).unwrap_or(&UNKNOWN)
 }
 
 /// The sentence where a mar image is read.
@@ -76,6 +86,15 @@ pub fn mar_sentence(number: u32) -> &'static Sentence {
         1 => &MAR_TRUNCATED,
         11 => &MAR_DATA_TRUNCATED,
         13 => &MAR_BAD_PAIR,
+        _ => sentence(number),
+    }
+}
+
+/// The sentence where a d*TREK image is read.
+pub fn dtrek_sentence(number: u32) -> &'static Sentence {
+    match number {
+        1 => &DTREK_TRUNCATED,
+        11 => &DTREK_DATA_TRUNCATED,
         _ => sentence(number),
     }
 }

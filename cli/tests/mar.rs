@@ -1,6 +1,6 @@
 //! info, expand and view of mar images, and the other commands given one, by the real command.
 mod common;
-use common::{command, folder, ran};
+use common::{command, folder, only_read, ran};
 use serde_json::{json, Value};
 use std::process::{Command, Stdio};
 
@@ -120,18 +120,7 @@ fn each_refusal_of_a_mar_image_has_its_sentence() {
 
 #[test]
 fn other_commands_say_that_it_is_a_mar_image() {
-    let f = folder();
-    f.put("a.image", &image(1200, &[])[..2400]);
-    f.put("short.image", 1200u32.to_le_bytes());
-    f.put("a.raw", [0; 4]);
-    let hint = "this is a mar image, which only `info`, `view` and `expand` take";
-    let open = |file: &str| format!("open {file} --form 1 -o a");
-    let write = "write --header a.image --pixels a.raw --form 1 -o out";
-    for (words, number) in [(open("a.image"), 2), (open("short.image"), 1), (write.to_string(), 2)] {
-        let said = f.refused(&words, number);
-        assert!(said.contains(hint), "{said}");
-    }
-    assert!(!f.has("a.held") && !f.has("out"));
+    only_read(&image(1200, &[])[..2400], &1200u32.to_le_bytes(), "mar");
 }
 
 /// A pipe gives its bytes once.

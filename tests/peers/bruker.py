@@ -55,9 +55,10 @@ def ask(*words):
     return numbers, ran.returncode == 0, ran.stdout
 
 
-def library_read(path):
+def library_read(path, call="expand"):
+    """By a call of the second reader's program, which asks both."""
     out = pathlib.Path(f"{path}.pixels")
-    numbers, same, text = ask("expand", path, out)
+    numbers, same, text = ask(call, path, out)
     refusal, rows, columns = numbers[0], numbers[3], numbers[4]
     pixels = None if refusal else numpy.fromfile(out, dtype="<u4").reshape(rows, columns)
     out.unlink()

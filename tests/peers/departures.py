@@ -31,12 +31,15 @@ def shown(reading):
         return f"refusal {reading.refusal}" if reading.refusal else shown(reading.pixels)
     if isinstance(reading, Exception):
         return type(reading).__name__
-    return " ".join(str(value) for value in reading.ravel())
+    if reading is None or reading.size == 0:
+        return "no pixels"
+    first, more = reading.ravel()[:8], reading.size - 8
+    return " ".join(str(value) for value in first) + (f" and {more} more" if more > 0 else "")
 
 
-def judged(path, fabio, library):
-    """Both readings held to what is expected of them."""
-    found = shown(bruker.fabio_read(path)), shown(bruker.library_read(path))
+def judged(path, fabio, library, readers=bruker):
+    """Both readings, by the functions of a module, held to what is expected of them."""
+    found = shown(readers.fabio_read(path)), shown(readers.library_read(path))
     text = f"FabIO {found[0]}, library {found[1]}"
     return f"as noted: {text}" if found == (fabio, library) else f"{text}; expected {fabio}, {library}"
 

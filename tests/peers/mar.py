@@ -19,7 +19,7 @@ def build():
     """The program that asks the library."""
     BINARY.parent.mkdir(parents=True, exist_ok=True)
     source, library = ROOT / "tests/peers/mar_read.c", ROOT / "target/staticlib/libquayrudder.a"
-    subprocess.run(["cc", "-O2", "-I", ROOT / "bench", source, library, "-o", BINARY], check=True)
+    subprocess.run(["cc", "-O2", "-I", ROOT / "include", source, library, "-o", BINARY], check=True)
 
 
 class Mar(NamedTuple):

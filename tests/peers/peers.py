@@ -1,6 +1,6 @@
 #!/usr/bin/python3
-"""FabIO's frames read by the library and the library's by FabIO, pixel by pixel; mar files by both, part by part; then where FabIO departs from the
-published format."""
+"""FabIO's frames read by the library and the library's by FabIO, pixel by pixel; mar files by both, part by part; d*TREK images by both, by dxtbx and by CBFlib; then
+where FabIO departs from the published formats."""
 import logging
 import pathlib
 import sys
@@ -10,7 +10,10 @@ from itertools import product
 import numpy
 
 import bruker
+import dtrek
+import dtrek_departures
 import mar
+import rigaku
 from departures import DEPARTURES
 
 SHAPES = [(1, 1), (1, 7), (3, 5), (64, 65), (512, 512), (2048, 2048)]
@@ -59,14 +62,19 @@ def field(path, line, index=0):
         return int(file.read(72).split()[index])
 
 
-def both_read(report, name, path, expected, width=1, underflow=None):
-    """The library, the second reader and FabIO read a file that has this form."""
-    found = field(path, 39), None if underflow is None else field(path, 39, 1)
-    report.note(name, "" if found == (width, underflow) else f"form {found}")
-    ours = bruker.library_read(path)
+def all_read(report, name, path, expected, readers):
+    """The library, the second reader and FabIO read a file by the functions of a module."""
+    ours = readers.library_read(path)
     pixels = ours.pixels if ours.refusal == 0 else f"refusal {ours.refusal}"
     second = "" if ours.same else f"the second reader: {ours.text}"
-    report.note(name, first_difference(pixels, expected), second, first_difference(bruker.fabio_read(path), expected))
+    report.note(name, first_difference(pixels, expected), second, first_difference(readers.fabio_read(path), expected))
+
+
+def both_read(report, name, path, expected, width=1, underflow=None):
+    """A frame that has this form, read by all."""
+    found = field(path, 39), None if underflow is None else field(path, 39, 1)
+    report.note(name, "" if found == (width, underflow) else f"form {found}")
+    all_read(report, name, path, expected, bruker)
 
 
 def fabio_86(report, folder, random):
@@ -156,9 +164,69 @@ def mar_unread(report, folder, random):
         report.note("no reader of FabIO reads a mar file", ", ".join(found))
 
 
+def dtrek_files(report, folder, random):
+    path = folder / "frame.img"
+    for kind, order, shape in product(dtrek.TYPES, "<>", [*SHAPES, (1, 4096), (4096, 1)]):
+        counts = dtrek.counts_of(random, shape, kind)
+        dtrek.fabio_write(path, counts.astype(kind), order, TITLE="a title", SATURATED_VALUE="1048544")
+        all_read(report, f"FabIO writes d*TREK, {dtrek.TYPES[kind]}, {dtrek.ORDERS[order]}", path, counts, dtrek)
+        dtrek.make(path, counts, kind, order)
+        all_read(report, f"d*TREK by the page, {dtrek.TYPES[kind]}, {dtrek.ORDERS[order]}", path, counts, dtrek)
+
+
+# Before a keyword, behind the equals sign, behind the value: white space that FabIO takes too.
+SPACES = ((" ", "= ", " "), ("\t", "=   ", "  "), ("\n\n ", "=", "   "))
+
+
+def dtrek_spaced(report, folder, random):
+    path = folder / "frame.img"
+    more = [("COMMENT", ""), ("DTREK_VERSION", "d*TREK version 9.4W"), ("dim", "3"), ("RAXIS_COMPRESSION_RATIO", "8"), ("COMPRESSION", "none")]
+    more += [(f"KEY_{at}", "x" * 50) for at in range(200)]
+    for kind, order, (before, after, behind) in product(dtrek.TYPES, "<>", SPACES):
+        counts = dtrek.counts_of(random, (31, 17), kind)
+        dtrek.make(path, counts, kind, order, more, before=before, after=after, behind=behind)
+        all_read(report, "d*TREK by the page, with white space and 205 more items", path, counts, dtrek)
+
+
+def dtrek_adsc(report, folder, random):
+    """CBFlib gives rows and columns exchanged, so that its pixels are compared in the file's order."""
+    path = folder / "frame.img"
+    for (kind, name), order, shape in product(dtrek.ADSC_TYPES.items(), "<>", [(3, 5), (64, 64), (512, 512), (700, 400)]):
+        pixels = counts(random, shape, min(2 ** (8 * int(kind[1])), 2**31) - 1, 0)
+        dtrek.make(path, pixels, kind, order, [("TYPE", name)])
+        all_read(report, f"d*TREK with ADSC's TYPE, {name}, {dtrek.ORDERS[order]}", path, pixels, dtrek)
+        found = dtrek.cbflib_read(path)
+        flat = found.reshape(shape) if isinstance(found, numpy.ndarray) and found.size == pixels.size else found
+        report.note(f"CBFlib, {name}, {dtrek.ORDERS[order]}", first_difference(flat, pixels))
+
+
+def dtrek_rigaku(report, folder, random):
+    """Files by the page and by FabIO, with the items that dxtbx wants."""
+    for detector, shape in product(rigaku.DETECTORS, [(1, 1), (3, 5), (64, 65), (512, 512), (619, 487)]):
+        items = rigaku.items_of(detector, shape)
+        for order, writer in product(detector.orders, ("page", "FabIO")):
+            path = folder / f"{detector.reader}_{shape[0]}_{dtrek.ORDERS[order]}_{writer}_0001.img"
+            pixels = dtrek.counts_of(random, shape, detector.kind) % 2**31
+            if writer == "page":
+                dtrek.make(path, pixels, detector.kind, order, items)
+            else:
+                dtrek.fabio_write(path, pixels.astype(detector.kind), order, **dict(items))
+            name = f"d*TREK by {writer}, for {detector.reader}, {dtrek.ORDERS[order]}"
+            all_read(report, name, path, pixels, dtrek)
+            report.note(name, first_difference(rigaku.dxtbx_read(path, detector), pixels))
+
+
+def dtrek_rigaku_order(report, folder, random):
+    path, pixels = folder / "turned_0001.img", dtrek.counts_of(random, (5, 7), "u4") % 2**31
+    dtrek.make(path, pixels, "u4", ">", rigaku.items_of(rigaku.PILATUS, pixels.shape))
+    all_read(report, "d*TREK for a Pilatus, big_endian", path, pixels, dtrek)
+    turned = pixels.astype(">u4").view("<i4").astype(numpy.int64)
+    report.note("dxtbx reads big_endian pixels of a Pilatus as little_endian", first_difference(rigaku.dxtbx_read(path, rigaku.PILATUS), turned))
+
+
 def departures(report, folder):
     print("\nWhere FabIO departs:")
-    for name, trial in DEPARTURES:
+    for name, trial in DEPARTURES + dtrek_departures.DEPARTURES:
         text = trial(folder / "frame")
         print(f"- {name}: {text}")
         report.note("departures as docs/PEERS.md has them", "" if text.startswith("as noted") else f"{name}: {text}")
@@ -173,7 +241,7 @@ def main():
     report = Report()
     with tempfile.TemporaryDirectory() as folder:
         folder = pathlib.Path(folder)
-        for trial in (fabio_86, fabio_100, library_100, mar_files, mar_unread):
+        for trial in (fabio_86, fabio_100, library_100, mar_files, mar_unread, dtrek_files, dtrek_spaced, dtrek_adsc, dtrek_rigaku, dtrek_rigaku_order):
             trial(report, folder, random)
         departures(report, folder)
     print()

@@ -113,3 +113,19 @@ pub fn old_frame(entry: &str) -> Vec<u8> {
 }
 
 pub const OLD_ENTRY: &str = "      300      1";
+
+/// `open` and `write` refuse an image and one cut short as no Bruker frame, and say what it is.
+pub fn only_read(image: &[u8], short: &[u8], format: &str) {
+    let f = folder();
+    f.put("a.image", image);
+    f.put("short.image", short);
+    f.put("a.raw", [0; 4]);
+    let hint = format!("this is a {format} image, which only `info`, `view` and `expand` take");
+    let open = |file: &str| format!("open {file} --form 1 -o a");
+    let write = "write --header a.image --pixels a.raw --form 1 -o out";
+    for (words, number) in [(open("a.image"), 2), (open("short.image"), 1), (write.to_string(), 2)] {
+        let said = f.refused(&words, number);
+        assert!(said.contains(&hint), "{said}");
+    }
+    assert!(!f.has("a.held") && !f.has("out"));
+}

@@ -1,6 +1,6 @@
 /* The C interface over a module that was compiled as a program with no proof: there a slice is a pointer to its start and length, and
    an answer goes through a pointer. */
-#include "../../../bench/quayrudder.h"
+#include "../../../include/quayrudder.h"
 
 typedef struct { const void *start; size_t length; } slice;
 
@@ -15,6 +15,9 @@ void rattle_qr_header(qr_header_answer *, slice *);
 void rattle_qr_list(qr_list_answer *, slice *, slice *);
 void rattle_qr_mar_read(qr_read_answer *, slice *, slice *);
 void rattle_qr_mar_entry(qr_mar_entry_answer *, slice *, uint32_t);
+void rattle_qr_dtrek_read(qr_read_answer *, slice *, slice *);
+void rattle_qr_dtrek_header(qr_dtrek_header_answer *, slice *);
+void rattle_qr_dtrek_item(qr_dtrek_item_answer *, slice *, uint64_t);
 
 qr_read_answer qr_read(const uint8_t *frame, size_t frame_len, uint32_t *pixels, size_t pixels_len) {
     slice f = { frame, frame_len }, p = { pixels, pixels_len };
@@ -91,5 +94,26 @@ qr_mar_entry_answer qr_mar_entry(const uint8_t *file, size_t file_len, uint32_t 
     slice f = { file, file_len };
     qr_mar_entry_answer answer;
     rattle_qr_mar_entry(&answer, &f, entry);
+    return answer;
+}
+
+qr_read_answer qr_dtrek_read(const uint8_t *file, size_t file_len, uint32_t *pixels, size_t pixels_len) {
+    slice f = { file, file_len }, p = { pixels, pixels_len };
+    qr_read_answer answer;
+    rattle_qr_dtrek_read(&answer, &f, &p);
+    return answer;
+}
+
+qr_dtrek_header_answer qr_dtrek_header(const uint8_t *file, size_t file_len) {
+    slice f = { file, file_len };
+    qr_dtrek_header_answer answer;
+    rattle_qr_dtrek_header(&answer, &f);
+    return answer;
+}
+
+qr_dtrek_item_answer qr_dtrek_item(const uint8_t *file, size_t file_len, uint64_t at) {
+    slice f = { file, file_len };
+    qr_dtrek_item_answer answer;
+    rattle_qr_dtrek_item(&answer, &f, at);
     return answer;
 }

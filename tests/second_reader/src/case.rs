@@ -15,11 +15,14 @@ pub enum Call {
     Listing,
     MarRead,
     MarEntry,
+    DtrekRead,
+    DtrekHeader,
+    DtrekItem,
     /// A list of calls.
     List,
 }
 
-pub const CALLS: [(Call, &str); 12] = [
+pub const CALLS: [(Call, &str); 15] = [
     (Call::Read, "read"),
     (Call::Write, "write"),
     (Call::Open, "open"),
@@ -31,6 +34,9 @@ pub const CALLS: [(Call, &str); 12] = [
     (Call::Listing, "listing"),
     (Call::MarRead, "mar read"),
     (Call::MarEntry, "mar entry"),
+    (Call::DtrekRead, "dtrek"),
+    (Call::DtrekHeader, "dtrek head"),
+    (Call::DtrekItem, "dtrek item"),
     (Call::List, "list"),
 ];
 
@@ -44,6 +50,7 @@ impl Call {
 #[derive(Clone, Copy, Debug, PartialEq, Eq)]
 pub struct Step {
     pub call: Call,
+    /// A pixel, or the place from which an item of a d*TREK header is asked for.
     pub pixel: u64,
     /// A count, or the number of an entry in a mar header.
     pub count: u32,
@@ -53,7 +60,7 @@ pub struct Step {
 #[derive(Clone, Debug, PartialEq, Eq)]
 pub struct Case {
     pub step: Step,
-    /// The frame or the mar image read or opened, or the writer's header. No call writes it, so copies of a case share it.
+    /// The frame, the mar image or the d*TREK image read or opened, or the writer's header. No call writes it, so copies of a case share it.
     pub frame: Rc<Vec<u8>>,
     pub pixels: Vec<u32>,
     pub form: (u32, u32),
@@ -76,6 +83,7 @@ pub enum Target {
 #[derive(Clone, Debug)]
 pub enum Mutation {
     Patch(Target, usize, Vec<u8>),
+    Insert(Target, usize, u8),
     Remove(Target, usize),
     Resize(Target, usize),
     /// Another number of pixel places.
@@ -125,6 +133,11 @@ impl Case {
                 Mutation::Patch(target, at, new) => {
                     let bytes = case.bytes_mut(*target).iter_mut().skip(*at);
                     bytes.zip(new).for_each(|(byte, new)| *byte = *new);
+                }
+                Mutation::Insert(target, at, byte) => {
+                    let bytes = case.bytes_mut(*target);
+                    let at = (*at).min(bytes.len());
+                    bytes.insert(at, *byte);
                 }
                 Mutation::Remove(target, at) => {
                     let bytes = case.bytes_mut(*target);

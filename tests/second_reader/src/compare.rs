@@ -5,8 +5,9 @@ use crate::frame::{Extent, Refusal};
 use crate::ledger::{self, Date, Entry};
 use crate::library;
 use crate::listing;
+use crate::mar::Order;
 use crate::model::Model;
-use crate::{frame, held, mar};
+use crate::{dtrek, frame, held, mar};
 
 /// What a case gave: the answers and every lent byte after each call.
 #[derive(Debug, PartialEq, Eq)]
@@ -76,6 +77,9 @@ fn library_step(fault: Fault, step: &Step, out: &mut Outcome) -> u64 {
         Call::Listing => library::list(ledger, held),
         Call::MarRead => fault.mar_read(&case.frame, &mut case.pixels),
         Call::MarEntry => library::mar_entry(&case.frame, step.count),
+        Call::DtrekRead => fault.dtrek_read(&case.frame, &mut case.pixels),
+        Call::DtrekHeader => library::dtrek_header(&case.frame),
+        Call::DtrekItem => library::dtrek_item(&case.frame, step.pixel),
     };
     if matches!(step.call, Call::Correct | Call::Keep | Call::Withdraw) {
         case.lines = answer[1];
@@ -161,6 +165,32 @@ fn entry_answer(found: Result<(bool, u32), Refusal>) -> Vec<u64> {
     }
 }
 
+fn dtrek_header_answer(file: &[u8]) -> Vec<u64> {
+    let header = match dtrek::read_header(file) {
+        Ok(header) => header,
+        Err(refusal) => return vec![refusal.number.into(), 0, 0, 0, 0, 0, 0],
+    };
+    let big_endian = header.order == Order::BigEndian;
+    let sizes = [
+        header.length as u64,
+        header.rows.into(),
+        header.columns.into(),
+    ];
+    let pixels = [header.width as u64, big_endian.into(), header.end() as u64];
+    [[0].as_slice(), &sizes, &pixels].concat()
+}
+
+fn dtrek_item_answer(file: &[u8], at: u64) -> Vec<u64> {
+    let places = |item: dtrek::Item| {
+        let (key, value) = (item.key, item.value);
+        [0, 1, key.start, key.end, value.start, value.end, item.next].map(|place| place as u64)
+    };
+    match dtrek::item(file, at) {
+        Ok(item) => item.map_or([0; 7], places).to_vec(),
+        Err(refusal) => vec![refusal.number.into(), 0, 0, 0, 0, 0, 0],
+    }
+}
+
 fn listing_answer(ledger: &[u8], out: &mut [u8]) -> Vec<u64> {
     let (text, room) = listing::listing(ledger);
     if out.len() < room {
@@ -201,6 +231,9 @@ fn second_step(step: &Step, out: &mut Outcome) -> u64 {
         Call::Listing => listing_answer(ledger, held),
         Call::MarRead => read_answer(mar::read(&case.frame, &mut case.pixels)),
         Call::MarEntry => entry_answer(mar::entry(&case.frame, step.count)),
+        Call::DtrekRead => read_answer(dtrek::read(&case.frame, &mut case.pixels)),
+        Call::DtrekHeader => dtrek_header_answer(&case.frame),
+        Call::DtrekItem => dtrek_item_answer(&case.frame, step.pixel),
     };
     out.note(counted(step.call), answer)
 }

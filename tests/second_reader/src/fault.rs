@@ -1,6 +1,8 @@
 //! Deliberate faults laid over the library, to see that the comparison finds them.
+use crate::dtrek;
 use crate::frame::read_header;
 use crate::library::{self, Answer};
+use crate::mar::Order;
 
 #[derive(Clone, Copy, Debug, PartialEq, Eq)]
 pub enum Fault {
@@ -13,6 +15,8 @@ pub enum Fault {
     Order,
     /// A bad pair of a mar image leaves the pixels as they were.
     Pixels,
+    /// Pixels of two bytes, most significant first, of a d*TREK image are read the other way round.
+    Swapped,
 }
 
 impl Fault {
@@ -23,6 +27,7 @@ impl Fault {
             Fault::Tail,
             Fault::Order,
             Fault::Pixels,
+            Fault::Swapped,
         ];
         faults.get(number as usize).copied()
     }
@@ -72,6 +77,20 @@ impl Fault {
         let answer = library::mar_read(file, pixels);
         if answer.0[0] == 13 {
             pixels.copy_from_slice(&before);
+        }
+        answer
+    }
+
+    pub fn dtrek_read(self, file: &[u8], pixels: &mut [u32]) -> Answer {
+        let answer = library::dtrek_read(file, pixels);
+        let swapped =
+            |header: &dtrek::Header| (header.width, header.order) == (2, Order::BigEndian);
+        let header = dtrek::read_header(file).ok().filter(swapped);
+        if let Some(header) = header.filter(|_| self == Fault::Swapped && answer.0[0] == 0) {
+            let image = &mut pixels[..header.pixels()];
+            image
+                .iter_mut()
+                .for_each(|pixel| *pixel = (*pixel as u16).swap_bytes().into());
         }
         answer
     }

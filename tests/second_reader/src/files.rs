@@ -2,7 +2,7 @@
 use crate::case::{Call, Case};
 use crate::compare::{self, Outcome};
 use crate::fault::Fault;
-use crate::frame;
+use crate::{dtrek, frame};
 use std::io;
 
 /// Both outcomes, printed: the numbers of each answer, and whether all that was lent is the same.
@@ -19,15 +19,18 @@ fn both(case: &Case) -> (Outcome, bool) {
     (left, same)
 }
 
-fn pixel_count(bytes: &[u8]) -> usize {
-    frame::read_header(bytes).map_or(0, |header| header.pixels())
+fn pixel_count(call: Call, bytes: &[u8]) -> usize {
+    match call {
+        Call::DtrekRead => dtrek::read_header(bytes).map_or(0, |header| header.pixels()),
+        _ => frame::read_header(bytes).map_or(0, |header| header.pixels()),
+    }
 }
 
-/// Reads a frame; its pixels go to `out`, least significant byte first.
-pub fn expand(file: &str, out: &str) -> io::Result<bool> {
-    let mut case = Case::of(Call::Read);
+/// Reads a frame or a d*TREK image by this call; its pixels go to `out`, least significant byte first.
+pub fn expand(call: Call, file: &str, out: &str) -> io::Result<bool> {
+    let mut case = Case::of(call);
     case.frame = std::fs::read(file)?.into();
-    case.pixels = vec![0; pixel_count(&case.frame)];
+    case.pixels = vec![0; pixel_count(call, &case.frame)];
     let (outcome, same) = both(&case);
     let pixels = outcome.after.pixels.iter();
     let bytes: Vec<u8> = pixels.flat_map(|pixel| pixel.to_le_bytes()).collect();

@@ -72,7 +72,7 @@ fn decimal(digits: &[u8]) -> u64 {
     digits.iter().fold(0, step)
 }
 
-fn parse_number(text: &[u8]) -> Option<u64> {
+pub fn parse_number(text: &[u8]) -> Option<u64> {
     let fits = all_digits(text) && text.len() <= 10;
     fits.then(|| decimal(text))
         .filter(|value| *value <= u64::from(u32::MAX))

@@ -1,5 +1,6 @@
 //! Cases: a valid one for each call, and the damage done to it.
 use crate::case::{Call, Case, Mutation, Step, Target};
+use crate::dtrek_cases;
 use crate::frame::{self, Header, LINE, NAME};
 use crate::ledger::{Date, Entry, BYTES};
 use crate::plates;
@@ -508,6 +509,8 @@ fn listing_case(random: &mut Random, size: Size) -> Case {
 pub struct Made {
     /// None where the call looks at no frame.
     pub size: Option<Size>,
+    /// What else is counted.
+    pub rare: Option<&'static str>,
     pub base: Case,
     pub damage: Vec<Mutation>,
 }
@@ -529,8 +532,8 @@ fn size(random: &mut Random, number: u64) -> Size {
 
 pub fn case(random: &mut Random, number: u64) -> Made {
     let size = size(random, number);
-    // The last five look at no frame.
-    let calls = if size.is_large() { 15 } else { 20 };
+    // The last nine look at no frame.
+    let calls = if size.is_large() { 15 } else { 24 };
     let call = match random.below(calls) {
         0..=3 => Call::Read,
         4 | 5 => Call::Write,
@@ -543,7 +546,10 @@ pub fn case(random: &mut Random, number: u64) -> Made {
         16 => Call::Purge,
         17 => Call::Listing,
         18 => return plates::headed_case(random, Call::MarEntry),
-        _ => return plates::headed_case(random, Call::MarRead),
+        19 => return plates::headed_case(random, Call::MarRead),
+        20 | 21 => return dtrek_cases::case(random, Call::DtrekRead),
+        22 => return dtrek_cases::case(random, Call::DtrekHeader),
+        _ => return dtrek_cases::case(random, Call::DtrekItem),
     };
     let base = match call {
         Call::Read | Call::Write | Call::Open | Call::Header => frame_case(random, call, size),
@@ -555,6 +561,7 @@ pub fn case(random: &mut Random, number: u64) -> Made {
     let framed = !matches!(call, Call::Keep | Call::Purge | Call::Listing);
     Made {
         size: framed.then_some(size),
+        rare: None,
         base,
         damage,
     }

@@ -90,6 +90,26 @@ pub fn mar_entry(file: &[u8], entry: u32) -> Answer {
     (numbers, a.is_untouched(file))
 }
 
+pub fn dtrek_read(file: &[u8], pixels: &mut [u32]) -> Answer {
+    read_by(quayrudder::dtrek_read, file, pixels)
+}
+
+pub fn dtrek_header(file: &[u8]) -> Answer {
+    let mut a = Lent::new(file, BYTE);
+    let r = quayrudder::dtrek_header(a.middle());
+    let mut numbers = words([r.refusal, r.start, r.rows, r.columns, r.width, r.big_endian]);
+    numbers.push(r.end);
+    (numbers, a.is_untouched(file))
+}
+
+pub fn dtrek_item(file: &[u8], at: u64) -> Answer {
+    let mut a = Lent::new(file, BYTE);
+    let r = quayrudder::dtrek_item(a.middle(), at);
+    let mut numbers = words([r.refusal, r.found]);
+    numbers.extend([r.key_start, r.key_end, r.value_start, r.value_end, r.next]);
+    (numbers, a.is_untouched(file))
+}
+
 pub fn write(header: &[u8], pixels: &[u32], asked: (u32, u32), out: &mut [u8]) -> Answer {
     let mut a = Lent::new(header, BYTE);
     let mut b = Lent::new(pixels, WORD);

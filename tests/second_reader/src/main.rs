@@ -3,6 +3,10 @@
 
 mod case;
 mod compare;
+mod dtrek;
+mod dtrek_cases;
+mod dtrek_file;
+mod dtrek_trials;
 mod fault;
 mod files;
 mod frame;
@@ -21,8 +25,9 @@ mod sample;
 mod tally;
 #[cfg(test)]
 mod trials;
+mod written_down;
 
-use case::{Case, Mutation};
+use case::{Call, Case, Mutation};
 use fault::Fault;
 use plates::Plates;
 use random::Random;
@@ -31,10 +36,12 @@ use std::time::{Duration, Instant, SystemTime, UNIX_EPOCH};
 use tally::Tally;
 
 const USAGE: &str =
-    "second_reader compare [--seed N] [--seconds S] [--fault 1..4] [--case FILE] [--trace 1]\n\
-                     second_reader replay FILE [--fault 1..4]\n\
+    "second_reader compare [--seed N] [--seconds S] [--fault 1..5] [--case FILE] [--trace 1]\n\
+                     second_reader replay FILE [--fault 1..5]\n\
                      second_reader mar-trials\n\
+                     second_reader dtrek-trials\n\
                      second_reader expand FRAME PIXELS\n\
+                     second_reader expand-dtrek FILE PIXELS\n\
                      second_reader store HEADER PIXELS WIDTH UNDERFLOW FRAME";
 
 struct Options {
@@ -121,6 +128,7 @@ fn next(
     }
     let made = generate::case(random, number);
     tally.add_size(made.size);
+    tally.add_rare(made.rare);
     agree(options, tally, &made.base, made.damage)
 }
 
@@ -186,7 +194,11 @@ fn run(words: &[&str]) -> Option<ExitCode> {
         ["compare", rest @ ..] => Some(run_compare(&options(rest)?)),
         ["replay", file, rest @ ..] => Some(run_replay(file, &options(rest)?)),
         ["mar-trials"] => Some(verdict(Ok(mar_trials::run()))),
-        ["expand", frame, pixels] => Some(verdict(files::expand(frame, pixels))),
+        ["dtrek-trials"] => Some(verdict(Ok(dtrek_trials::run()))),
+        ["expand", frame, pixels] => Some(verdict(files::expand(Call::Read, frame, pixels))),
+        ["expand-dtrek", file, pixels] => {
+            Some(verdict(files::expand(Call::DtrekRead, file, pixels)))
+        }
         ["store", header, pixels, width, underflow, frame] => {
             let form = (width.parse().ok()?, underflow.parse().ok()?);
             Some(verdict(files::store(header, pixels, form, frame)))

@@ -20,7 +20,7 @@ pub enum Order {
 pub const ORDERS: [Order; 2] = [Order::LittleEndian, Order::BigEndian];
 
 impl Order {
-    fn number(self, bytes: &[u8]) -> u32 {
+    pub fn number(self, bytes: &[u8]) -> u32 {
         let join = |sum: u32, byte: &u8| sum << 8 | u32::from(*byte);
         match self {
             Order::LittleEndian => bytes.iter().rev().fold(0, join),

@@ -1,9 +1,8 @@
 //! A fixed list of mar images, each with its answer written down in mar_trials.txt.
 use crate::case::{Call, Case};
-use crate::compare::{self, Outcome};
-use crate::fault::Fault;
 use crate::mar::{Order, MARK, PAIR};
 use crate::plate::{self, Plate};
+use crate::written_down::{self, array_words, both};
 use std::rc::Rc;
 
 const EXPECTED: &str = include_str!("../mar_trials.txt");
@@ -256,29 +255,6 @@ const CHANGES: [(&str, Change); 61] = [
     }),
 ];
 
-fn array_words(before: &[u32], after: &[u32], pixels: usize) -> String {
-    if before == after {
-        return "array untouched".to_string();
-    }
-    let (image, rest) = after.split_at(pixels);
-    let kept = match rest == &before[pixels..] {
-        true => "rest untouched",
-        false => "rest touched",
-    };
-    if image.iter().all(|pixel| *pixel == 0) {
-        return format!("zeros, {kept}");
-    }
-    let sum: u64 = image.iter().map(|pixel| u64::from(*pixel)).sum();
-    let address = 1..;
-    let weighted = image
-        .iter()
-        .zip(address)
-        .map(|(pixel, a): (_, u64)| a * u64::from(*pixel));
-    let weighted: u64 = weighted.sum();
-    let (first, last) = (image[0], image[pixels - 1]);
-    format!("first {first}, last {last}, sum {sum}, weighted {weighted}, {kept}")
-}
-
 fn read_line(name: &str, image: Image) -> String {
     let mut case = Case::of(Call::MarRead);
     case.frame = image.file;
@@ -290,14 +266,6 @@ fn read_line(name: &str, image: Image) -> String {
         kind(image.plate),
         outcome.words()
     )
-}
-
-/// The library's outcome, and a note where the second reader's is another.
-fn both(case: &Case) -> (Outcome, &'static str) {
-    let library = compare::by_library(Fault::None, case);
-    let same = library == compare::by_second_reader(case);
-    let note = if same { "" } else { ", second reader differs" };
-    (library, note)
 }
 
 fn kind(plate: Plate) -> String {
@@ -364,23 +332,6 @@ fn lines() -> impl Iterator<Item = String> {
         .chain(kinds.into_iter().flat_map(entry_lines))
 }
 
-/// Prints a line for each trial. False where one is not as written down.
 pub fn run() -> bool {
-    let mut expected = EXPECTED.lines().filter(|line| !line.starts_with('#'));
-    let mut different = 0;
-    let mut count = 0;
-    for line in lines() {
-        let wanted = expected.next().unwrap_or("nothing");
-        println!("{line}");
-        if line != wanted {
-            println!("  written down: {wanted}");
-            different += 1;
-        }
-        count += 1;
-    }
-    let left = expected.count();
-    println!(
-        "mar trials: {count}, not as written down: {different}, written down and not run: {left}"
-    );
-    different == 0 && left == 0
+    written_down::run("mar", EXPECTED, lines())
 }

@@ -217,6 +217,7 @@ pub fn headed_case(random: &mut Random, call: Call) -> Made {
     let damage = (0..random.pick(&[0, 1, 1, 2])).map(|_| one(random));
     Made {
         size: None,
+        rare: None,
         damage: damage.collect(),
         base,
     }

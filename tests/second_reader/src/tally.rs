@@ -10,6 +10,7 @@ pub struct Tally {
     sizes: BTreeMap<Size, u64>,
     /// Whole mar images by their side.
     plates: BTreeMap<usize, u64>,
+    rare: BTreeMap<&'static str, u64>,
     met: BTreeMap<(Call, u64), u64>,
 }
 
@@ -29,6 +30,9 @@ fn possible(call: Call) -> Vec<u64> {
         Call::Listing => vec![0, 1],
         Call::MarRead => vec![0, 1, 10, 11, 13, 28, 29],
         Call::MarEntry => vec![0, 1, 28, 29, 37],
+        Call::DtrekRead => vec![0, 1, 10, 11, 32, 33, 34, 35],
+        Call::DtrekHeader => vec![0, 1, 32, 33, 34, 35],
+        Call::DtrekItem => vec![0, 1, 32, 33],
         Call::List => Vec::new(),
     }
 }
@@ -46,6 +50,13 @@ impl Tally {
     pub fn add_size(&mut self, size: Option<Size>) {
         if let Some(size) = size {
             *self.sizes.entry(size).or_default() += 1;
+        }
+    }
+
+    /// Counts a case by what is rare about it.
+    pub fn add_rare(&mut self, rare: Option<&'static str>) {
+        if let Some(name) = rare {
+            *self.rare.entry(name).or_default() += 1;
         }
     }
 
@@ -75,6 +86,9 @@ impl Tally {
         self.plates
             .iter()
             .for_each(|(side, count)| println!("mar images of {side} x {side}: {count}"));
+        self.rare
+            .iter()
+            .for_each(|(name, count)| println!("{name}: {count}"));
     }
 
     pub fn print(&self) {
@@ -85,18 +99,18 @@ impl Tally {
         self.print_sizes();
         print!("{:>8}", "refusal");
         let calls = &CALLS[..CALLS.len() - 1];
-        calls.iter().for_each(|(_, name)| print!("{name:>10}"));
+        calls.iter().for_each(|(_, name)| print!("{name:>11}"));
         println!();
-        for refusal in (0..=29).chain([37]) {
+        for refusal in (0..=29).chain(32..=35).chain([37]) {
             print!("{refusal:>8}");
             for (call, _) in calls {
                 match (
                     self.count(*call, refusal),
                     possible(*call).contains(&refusal),
                 ) {
-                    (0, false) => print!("{:>10}", "."),
-                    (0, true) => print!("{:>10}", "MISSED"),
-                    (count, _) => print!("{count:>10}"),
+                    (0, false) => print!("{:>11}", "."),
+                    (0, true) => print!("{:>11}", "MISSED"),
+                    (count, _) => print!("{count:>11}"),
                 }
             }
             println!();

@@ -1,7 +1,8 @@
 //! The second reader against values worked out by hand.
 use crate::case::Case;
 use crate::compare;
-use crate::frame::{self, Refusal};
+use crate::dtrek;
+use crate::frame::{self, refuse, Refusal};
 use crate::generate;
 use crate::ledger::{self, Date, Entry};
 use crate::random::Random;
@@ -96,6 +97,61 @@ fn standing_after_two_withdrawals() {
     let gone = Entry::Withdrawal;
     let lines = [correction(1), keep, correction(2), gone, gone];
     assert_eq!(ledger::standing(&lines), [correction(1)]);
+}
+
+const DTREK: &[u8] =
+    b"{\nHEADER_BYTES=  512;\nSIZE1=2;\n\tSIZE2= 1 ;\nDIM=2;\nA={;\nBYTE_ORDER=big_endian;\n\
+    Data_type=\n unsigned long int;\nCOMPRESSION=none;\n }\n\x0C\n";
+
+/// The image of DTREK's header, padded, and two pixels.
+fn dtrek_image() -> Vec<u8> {
+    let mut file = DTREK.to_vec();
+    file.resize(512, b' ');
+    file.extend([255, 255, 255, 254, 0, 0, 1, 2]);
+    file
+}
+
+#[test]
+fn dtrek_pixels() {
+    let mut pixels = [7; 3];
+    let found = dtrek::read(&dtrek_image(), &mut pixels);
+    assert!(found.is_ok_and(|extent| (extent.rows, extent.columns, extent.end) == (1, 2, 520)));
+    assert_eq!(pixels, [4_294_967_294, 258, 7]);
+}
+
+#[test]
+fn dtrek_refusals() {
+    let numbered = |change: fn(&mut Vec<u8>)| {
+        let mut file = dtrek_image();
+        change(&mut file);
+        dtrek::read(&file, &mut [7; 2])
+            .err()
+            .map(|refusal| refusal.number)
+    };
+    assert_eq!(numbered(|file| file[18] = b'x'), Some(32));
+    assert_eq!(numbered(|file| file.truncate(511)), Some(1));
+    assert_eq!(numbered(|file| file[511] = b'.'), Some(33));
+    assert_eq!(numbered(|file| file[28] = b'0'), Some(34));
+    assert_eq!(numbered(|file| file[28] = b'3'), Some(10));
+    assert_eq!(numbered(|file| file.truncate(519)), Some(11));
+    assert_eq!(numbered(|file| file.truncate(520)), None);
+}
+
+#[test]
+fn dtrek_items() {
+    let file = dtrek_image();
+    let item = |at| dtrek::item(&file, at).ok().flatten();
+    let text =
+        |item: &dtrek::Item| [item.key.clone(), item.value.clone()].map(|part| file[part].to_vec());
+    let all: Vec<dtrek::Item> =
+        std::iter::successors(item(1), |last| item(last.next as u64)).collect();
+    assert_eq!(all.len(), 8);
+    assert_eq!(
+        all.first().map(text),
+        Some([b"HEADER_BYTES".to_vec(), b"512".to_vec()])
+    );
+    assert_eq!(all.get(4).map(text), Some([b"A".to_vec(), b"{".to_vec()]));
+    assert_eq!(dtrek::item(&file, 0), refuse(33));
 }
 
 #[test]

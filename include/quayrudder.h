@@ -13,6 +13,8 @@ typedef struct {
     uint32_t refusal, place, column, format, start, rows, columns, width, entries, subtracted, entry, baseline, underflows, two, four;
 } qr_header_answer;
 typedef struct { uint32_t refusal, is_float, bits; } qr_mar_entry_answer;
+typedef struct { uint32_t refusal, start, rows, columns, width, big_endian; uint64_t end; } qr_dtrek_header_answer;
+typedef struct { uint32_t refusal, found; uint64_t key_start, key_end, value_start, value_end, next; } qr_dtrek_item_answer;
 
 /* A frame of FORMAT 100 or 86 into pixels. */
 qr_read_answer qr_read(const uint8_t *frame, size_t frame_len, uint32_t *pixels, size_t pixels_len);
@@ -49,6 +51,18 @@ qr_read_answer qr_mar_read(const uint8_t *file, size_t file_len, uint32_t *pixel
 
 /* A mar header's entry, 1 to 25. is_float: 0 for a whole number, 1 for a single-precision float; bits: the number, or the float's bits. */
 qr_mar_entry_answer qr_mar_entry(const uint8_t *file, size_t file_len, uint32_t entry);
+
+/* A d*TREK image into pixels. rows: SIZE2; columns: SIZE1; end: the byte after the last pixel. */
+qr_read_answer qr_dtrek_read(const uint8_t *file, size_t file_len, uint32_t *pixels, size_t pixels_len);
+
+/* What a d*TREK header says. start: its length; rows: SIZE2; columns: SIZE1; width: bytes of a pixel; big_endian: 1 or 0; end: the byte after the
+   last pixel. Refusals 32, 1, 33, 34, 35. */
+qr_dtrek_header_answer qr_dtrek_header(const uint8_t *file, size_t file_len);
+
+/* The item that is read on from byte at of a d*TREK header: 1 for the first, then next of the last answer. The keyword's bytes are from key_start to
+   before key_end, those of the value without the white space around it from value_start to before value_end. found: 0 where no semicolon follows
+   within the header. Refusals 32 and 1 as in reading, and 33 where what follows is no item. */
+qr_dtrek_item_answer qr_dtrek_item(const uint8_t *file, size_t file_len, uint64_t at);
 
 /* The text of a ledger's listing, the last length bytes of out. too_short: 1 where out has no room for it. */
 qr_list_answer qr_list(const uint8_t *ledger, size_t ledger_len, uint8_t *out, size_t out_len);
