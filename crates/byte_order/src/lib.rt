@@ -98,6 +98,23 @@ fn load_big32(t: &[u8], out: &mut [u32]) -> bool
     true
 }
 
+fn load_little32(t: &[u8], out: &mut [u32]) -> bool
+    ensures { λ r. ⌜ r ≡ leb (length (now (out .entry)) * 4) (length (now (t .entry))) ⌝ }
+    ensures { λ _. ⌜ now (out .exit) ≡ if_then_else_ (leb (length (now (out .entry)) * 4) (length (now (t .entry)))) (numbers ByteOrder.Little 4 (length (now (out .entry))) (now (t .entry))) (now (out .entry)) ⌝ }
+{
+    if t.len() < out.len() * 4 {
+        return false;
+    }
+    let mut at = 0;
+    let mut i = 0;
+    while i < out.len() {
+        out[i] = little32(t, at);
+        at += 4;
+        i += 1;
+    }
+    true
+}
+
 fn load16(t: &[u8], order: ByteOrder, out: &mut [u32]) -> bool
     ensures { λ r. ⌜ r ≡ leb (length (now (out .entry)) * 2) (length (now (t .entry))) ⌝ }
     ensures { λ _. ⌜ now (out .exit) ≡ if_then_else_ (leb (length (now (out .entry)) * 2) (length (now (t .entry)))) (numbers order 2 (length (now (out .entry))) (now (t .entry))) (now (out .entry)) ⌝ }
@@ -113,7 +130,7 @@ fn load32(t: &[u8], order: ByteOrder, out: &mut [u32]) -> bool
     ensures { λ _. ⌜ now (out .exit) ≡ if_then_else_ (leb (length (now (out .entry)) * 4) (length (now (t .entry)))) (numbers order 4 (length (now (out .entry))) (now (t .entry))) (now (out .entry)) ⌝ }
 {
     match order {
-        ByteOrder::Little => table::load(t, Width::Four, out),
+        ByteOrder::Little => load_little32(t, out),
         ByteOrder::Big => load_big32(t, out),
     }
 }
@@ -166,7 +183,7 @@ pub fn load_halves(t: &[u8], order: ByteOrder, width: Width, out: &mut [u32]) ->
     if t.len() < end {
         return false;
     }
-    if out.len() <= 1048576 {
+    if out.len() <= 2097152 {
         return load(t, order, width, out);
     }
     load_both(t, order, width, out);

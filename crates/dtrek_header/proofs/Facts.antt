@@ -23,7 +23,7 @@ use Rattle.dtrek_header.specs.declared.Length.{Length}
 use Rattle.dtrek_header.specs.declared.Length.the-variants as L
 use Rattle.dtrek_header.specs.Length.{headerLength}
 use Rattle.dtrek_header.specs.Contents.{numberUnder, isTwo, isSide, areSizes, isOrder, required, supported, countOf, headerOf}
-use Rattle.dtrek_header.specs.DtrekHeader.{headerIn, headerBy, dtrekHeader, Bounded}
+use Rattle.dtrek_header.specs.DtrekHeader.{contentsIn, headerIn, headerBy, dtrekHeader, Bounded}
 use Rattle.dtrek_header.proofs.Laws.{length-listed}
 
 record Sides (a b : ℕ) : Type 0 where
@@ -63,7 +63,7 @@ module _ (n : ℕ) (is : List Item) where
   bounded-if {h} false true false l t p = let e : headerOf n is ≡ h = cc in rw e at (bounded-of l t)
 
 bounded-in : (n : ℕ) (text : List ℕ) {h : DtrekHeader} → n ≤ 99840 → headerIn n text ≡ A.Accepted h → Bounded h
-unfolding headerIn
+unfolding headerIn contentsIn
 bounded-in n text l p = bounded-if n (items text) (not (wellWritten text) || repeated (items text)) _ (not (supported (items text))) l refl p
 
 bounded-by : (bytes : List ℕ) {h : DtrekHeader} (n : ℕ) (t : Bool) → n ≤ 99840 → if_then_else_ t (A.Refused R.HeaderTruncated) (headerIn n (between 1 n bytes)) ≡ A.Accepted h → Bounded h

@@ -6,7 +6,7 @@ use lib.ListN.{length}
 use lib.Dec.{ltb}
 use Rattle.lists.specs.Choose.{if_then_else_}
 use Rattle.dtrek_text.specs.Bytes.{between}
-use Rattle.dtrek_text.specs.Items.{items, repeated, wellWritten}
+use Rattle.dtrek_text.specs.Items.{Item, items, repeated, wellWritten}
 use Rattle.dtrek_header.specs.declared.DtrekHeader.{DtrekHeader}
 use Rattle.dtrek_header.specs.declared.Length.{Length}
 use Rattle.dtrek_header.specs.declared.Length.the-variants as L
@@ -17,13 +17,18 @@ use Rattle.dtrek_header.specs.declared.DtrekHeaderAnswer.the-variants as
 use Rattle.dtrek_header.specs.Length.{headerLength}
 use Rattle.dtrek_header.specs.Contents.{required, supported, headerOf}
 
--- a header of n bytes, of which the text is all behind the opening brace
+-- 34 and then 35
+unfoldable pub contentsIn : ℕ → List Item → DtrekHeaderAnswer
+contentsIn n is =
+    if not (required is) then A.Refused R.BadContent else
+    if not (supported is) then A.Refused R.UnsupportedData else
+    A.Accepted (headerOf n is)
+
+-- 33 first: a header of n bytes, of which the text is all behind the opening brace
 unfoldable pub headerIn : ℕ → List ℕ → DtrekHeaderAnswer
 headerIn n text =
     if not (wellWritten text) || repeated (items text) then A.Refused R.BadSyntax else
-    if not (required (items text)) then A.Refused R.BadContent else
-    if not (supported (items text)) then A.Refused R.UnsupportedData else
-    A.Accepted (headerOf n (items text))
+    contentsIn n (items text)
 
 abbrev pub headerBy : List ℕ → Length → DtrekHeaderAnswer
 headerBy bytes L.Unlisted = A.Refused R.BadHeaderStart

@@ -1,9 +1,9 @@
 // The header of a d*TREK image: any bytes give its numbers or one refusal.
 ghost use mathlib.Core.Path.{_≡_};
-ghost use Rattle.dtrek_text.specs.Items.{items, has, valueOf};
+ghost use Rattle.dtrek_text.specs.Items.{items};
 ghost use Rattle.dtrek_header.specs.Length.{lengthFrom, headerLength};
-ghost use Rattle.dtrek_header.specs.Contents.{numberUnder, isTwo, isSide, areSizes, isOrder, required, isType, supported, countOf, orderOf, widthOf, headerOf};
-ghost use Rattle.dtrek_header.specs.DtrekHeader.{headerIn, dtrekHeader};
+ghost use Rattle.dtrek_header.specs.Contents.{numberUnder, isTwo, isSide, areSizes, isOrder, requiredFrom, isType, supportedFrom, countOf, orderOf, widthOf, headerFrom};
+ghost use Rattle.dtrek_header.specs.DtrekHeader.{contentsIn, headerIn, dtrekHeader};
 use byte_order::ByteOrder;
 use layout::Image;
 use layout::Width;
@@ -109,18 +109,16 @@ fn is_order(v: &[u8]) -> bool
 }
 
 // Refusal 34: what must be there.
-fn has_required(text: &[u8]) -> bool
-    ensures { λ r. ⌜ r ≡ required (items (now (text .entry))) ⌝ }
+fn has_required<'a>(text: &'a [u8], columns: Number, rows: Number, order: &'a [u8]) -> bool
+    ensures { λ r. ⌜ r ≡ requiredFrom columns rows (now (order .entry)) (items (now (text .entry))) ⌝ }
 {
     if is_two(number_under(text, b"DIM")) {} else {
         return false;
     }
-    let columns = number_under(text, b"SIZE1");
-    let rows = number_under(text, b"SIZE2");
     if are_sizes(columns, rows) {} else {
         return false;
     }
-    if is_order(dtrek_items::value(text, b"BYTE_ORDER")) {} else {
+    if is_order(order) {} else {
         return false;
     }
     dtrek_items::has_key(text, b"Data_type")
@@ -139,10 +137,10 @@ fn is_type(v: &[u8]) -> bool
 }
 
 // Refusal 35: what can be read.
-fn is_supported(text: &[u8]) -> bool
-    ensures { λ r. ⌜ r ≡ supported (items (now (text .entry))) ⌝ }
+fn is_supported<'a>(text: &'a [u8], kind: &'a [u8]) -> bool
+    ensures { λ r. ⌜ r ≡ supportedFrom (now (kind .entry)) (items (now (text .entry))) ⌝ }
 {
-    if is_type(dtrek_items::value(text, b"Data_type")) {} else {
+    if is_type(kind) {} else {
         return false;
     }
     if dtrek_items::has_key(text, b"COMPRESSION") {
@@ -182,21 +180,41 @@ fn width_of(v: &[u8]) -> Width
     Width::Four
 }
 
-fn header_of(text: &[u8], n: u32) -> DtrekHeader
-    ensures { λ r. ⌜ r ≡ headerOf n (items (now (text .entry))) ⌝ }
+fn header_from<'a>(
+    n: u32,
+    columns: Number,
+    rows: Number,
+    kind: &'a [u8],
+    order: &'a [u8],
+) -> DtrekHeader
+    ensures { λ r. ⌜ r ≡ headerFrom n columns rows (now (kind .entry)) (now (order .entry)) ⌝ }
 {
-    let rows = count_of(number_under(text, b"SIZE2"));
-    let columns = count_of(number_under(text, b"SIZE1"));
-    let width = width_of(dtrek_items::value(text, b"Data_type"));
-    let order = order_of(dtrek_items::value(text, b"BYTE_ORDER"));
     DtrekHeader {
         image: Image {
             start: n,
-            rows,
-            columns,
-            width,
+            rows: count_of(rows),
+            columns: count_of(columns),
+            width: width_of(kind),
         },
-        order,
+        order: order_of(order),
+    }
+}
+
+// The contents of a text that is well written.
+fn read_items(text: &[u8], n: u32) -> DtrekHeaderAnswer
+    ensures { λ r. ⌜ r ≡ contentsIn n (items (now (text .entry))) ⌝ }
+{
+    let columns = number_under(text, b"SIZE1");
+    let rows = number_under(text, b"SIZE2");
+    let order = dtrek_items::value(text, b"BYTE_ORDER");
+    let kind = dtrek_items::value(text, b"Data_type");
+    if has_required(text, columns, rows, order) {} else {
+        return DtrekHeaderAnswer::Refused(Refusal::BadContent);
+    }
+    if is_supported(text, kind) {
+        DtrekHeaderAnswer::Accepted(header_from(n, columns, rows, kind, order))
+    } else {
+        DtrekHeaderAnswer::Refused(Refusal::UnsupportedData)
     }
 }
 
@@ -209,14 +227,7 @@ fn read_text(text: &[u8], n: u32) -> DtrekHeaderAnswer
     if dtrek_items::has_repeated(text) {
         return DtrekHeaderAnswer::Refused(Refusal::BadSyntax);
     }
-    if has_required(text) {} else {
-        return DtrekHeaderAnswer::Refused(Refusal::BadContent);
-    }
-    if is_supported(text) {
-        DtrekHeaderAnswer::Accepted(header_of(text, n))
-    } else {
-        DtrekHeaderAnswer::Refused(Refusal::UnsupportedData)
-    }
+    read_items(text, n)
 }
 
 // The numbers of an accepted header, or refusal 32, 1, 33, 34 or 35.

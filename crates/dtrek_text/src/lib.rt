@@ -41,17 +41,28 @@ fn is_plain(b: u8) -> bool
     b != 125
 }
 
+// Bytes above the equals sign first: letters and underscores.
+fn in_keyword(b: u8) -> bool
+    ensures { λ r. ⌜ r ≡ inClass Class.Keyword b ⌝ }
+{
+    if 61 < b {
+        if b == 123 {
+            return false;
+        }
+        return b != 125;
+    }
+    if is_white(b) {
+        return false;
+    }
+    is_plain(b)
+}
+
 fn in_class(class: Class, b: u8) -> bool
     ensures { λ r. ⌜ r ≡ inClass class b ⌝ }
 {
     match class {
         Class::White => is_white(b),
-        Class::Keyword => {
-            if is_white(b) {
-                return false;
-            }
-            is_plain(b)
-        }
+        Class::Keyword => in_keyword(b),
         Class::Value => b != 59,
         Class::Space => b == 32,
     }

@@ -1,17 +1,15 @@
-use Rattle.byte_order.proofs.Laws.{numbers-little}
 use borrow.Author.Needs.{needs}
 use Rattle.byte_order.proofs.load32.Statement.{statement}
 use Rattle.byte_order.proofs.load32.Tie as tie
 use Rattle.byte_order.proofs.load32.Reads as reads
 use Rattle.byte_order.proofs.load32.Lts as lts
 use Rattle.byte_order.proofs.load_big32.Reads as load-big32-reads
-use Rattle.table.proofs.load.Reads as load-reads
 
 enum-told : tie.Need-enum-told
 enum-told c = search needs
 
-load-requires : tie.Need-load-requires
-load-requires c κs = search needs
+load-little32-requires : tie.Need-load-little32-requires
+load-little32-requires c κs = search needs
 
 enum-told-2 : tie.Need-enum-told-2
 enum-told-2 c = search needs
@@ -23,7 +21,7 @@ same-length : tie.Need-same-length
 same-length c = search needs
 
 returns : tie.Need-returns
-returns c = rw (c .before .before .before .before .enum-told .given .1, numbers-little) (c .before .before .load .ensures)
+returns c = rw (c .before .before .before .before .enum-told .given .1) (c .before .before .load-little32 .ensures)
 
 same-length-2 : tie.Need-same-length-2
 same-length-2 c = search needs
@@ -36,7 +34,7 @@ load32-spec =
     tie.close
     (tie.spec
     enum-told
-    load-requires
+    load-little32-requires
     enum-told-2
     load-big32-requires
     same-length
