@@ -15,7 +15,8 @@ use Rattle.numeral.specs.declared.Number.{Number}
 use Rattle.numeral.specs.declared.Number.the-variants.{Value, NotANumber}
 use Rattle.refusal.specs.declared.Refusal.the-variants as R
 use Rattle.dtrek_text.specs.Bytes.{between}
-use Rattle.dtrek_text.specs.Items.{Item, items, has, repeated, wellWritten, valueOf}
+use Rattle.dtrek_text.specs.Items.{Item, items, wellWritten}
+use Rattle.dtrek_items.specs.Lookup.{repeated}
 use Rattle.dtrek_header.specs.declared.DtrekHeader.{DtrekHeader}
 use Rattle.dtrek_header.specs.declared.DtrekHeaderAnswer.{DtrekHeaderAnswer}
 use Rattle.dtrek_header.specs.declared.DtrekHeaderAnswer.the-variants as A

@@ -6,7 +6,8 @@ use lib.ListN.{length}
 use lib.Dec.{ltb}
 use Rattle.lists.specs.Choose.{if_then_else_}
 use Rattle.dtrek_text.specs.Bytes.{between}
-use Rattle.dtrek_text.specs.Items.{Item, items, repeated, wellWritten}
+use Rattle.dtrek_text.specs.Items.{Item, items, wellWritten}
+use Rattle.dtrek_items.specs.Lookup.{repeated}
 use Rattle.dtrek_header.specs.declared.DtrekHeader.{DtrekHeader}
 use Rattle.dtrek_header.specs.declared.Length.{Length}
 use Rattle.dtrek_header.specs.declared.Length.the-variants as L

@@ -11,7 +11,8 @@ use lib.Seq.{length-take-le}
 use Rattle.lists.specs.Bytes.{sameBytes}
 use Rattle.dtrek_text.specs.declared.Cursor.{Cursor}
 use Rattle.dtrek_text.specs.Bytes.{between, keywordAt}
-use Rattle.dtrek_text.specs.Items.{Item, items, has, repeated}
+use Rattle.dtrek_text.specs.Items.{Item, items}
+use Rattle.dtrek_items.specs.Lookup.{has, repeated}
 use Rattle.dtrek_text.proofs.Scans.{Stands}
 use Rattle.dtrek_items.specs.Keys.{keysAt, hasKey, Rising, Between, Inserted}
 use Rattle.dtrek_items.proofs.Ordering.{sames-flip}

@@ -2,7 +2,8 @@
 ghost use mathlib.Core.Path.{_≡_};
 ghost use Prim.Native.Nat.{_+_, _*_, _≤_, _<_};
 ghost use lib.ListN.{length};
-ghost use Rattle.dtrek_text.specs.Items.{items, has, valueOf, repeated, wellWritten};
+ghost use Rattle.dtrek_text.specs.Items.{items, wellWritten};
+ghost use Rattle.dtrek_items.specs.Lookup.{has, valueOf, repeated};
 ghost use Rattle.dtrek_items.specs.Keys.{compared, Rising, Sought, Inserted};
 use dtrek_text::Cursor;
 use dtrek_text::Scanned;
