@@ -1,1 +1,2 @@
 mod Frame
+mod Facts
