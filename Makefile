@@ -105,7 +105,7 @@ mar-trials: second-reader
 dtrek-trials: second-reader
 	$(KEEP_MEMORY) $(SECOND_READER) dtrek-trials
 
-# Five deliberate faults in copies of the library, which the comparison has to find.
+# Seven deliberate faults in copies of the library, which the comparison has to find.
 faults: deps-rust
 	tests/second_reader/faults.sh
 
