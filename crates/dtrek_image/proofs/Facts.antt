@@ -22,6 +22,7 @@ use Rattle.dtrek_header.specs.declared.DtrekHeaderAnswer.the-variants as H
 use Rattle.dtrek_header.specs.DtrekHeader.{dtrekHeader}
 use Rattle.dtrek_image.specs.declared.DtrekAnswer.the-variants as A
 use Rattle.dtrek_image.specs.DtrekImage.{storedPixels, imageAnswer, imagePixels, answerBy, pixelsBy, dtrekAnswer, dtrekPixels}
+use Rattle.dtrek_image.specs.Theorems.{RefusedKept, Loaded, AcceptedLoaded}
 
 module _ (bytes px : List ℕ) where
   kept-if : (h : DtrekHeader) {r : Refusal} (s t : Bool) (xs : List ℕ) (rows columns end : ℕ)
@@ -36,20 +37,14 @@ module _ (bytes px : List ℕ) where
   kept-by (H.Accepted h) p = kept-if h (ltb (length px) (pixelCount (h .image))) (ltb (length bytes) (imageEnd (h .image))) (storedPixels bytes h ++ drop (pixelCount (h .image)) px) (h .image .rows) (h .image .columns) (imageEnd (h .image)) p
   kept-by (H.Refused r) p = refl
 
-  -- every refusal leaves the array as it was
-  pub refused-kept : {r : Refusal} → dtrekAnswer bytes (length px) ≡ A.Refused r → dtrekPixels bytes px ≡ px
+  pub refused-kept : RefusedKept bytes px
   unfolding dtrekAnswer dtrekPixels
-  refused-kept p = kept-by (dtrekHeader bytes) p
-
-  -- the stored pixels in the first places, and the others as they were
-  pub record Loaded (h : DtrekHeader) : Type 0 where
-    pub front : take (pixelCount (h .image)) (dtrekPixels bytes px) ≡ storedPixels bytes h
-    pub rest : drop (pixelCount (h .image)) (dtrekPixels bytes px) ≡ drop (pixelCount (h .image)) px
+  refused-kept r p = kept-by (dtrekHeader bytes) p
 
   stored-length : (h : DtrekHeader) → length (storedPixels bytes h) ≡ pixelCount (h .image)
   stored-length h = length-numbers (h .order) (widthBytes (h .image .width)) (pixelCount (h .image)) (drop (h .image .start) bytes)
 
-  loaded-is : (h : DtrekHeader) → dtrekPixels bytes px ≡ storedPixels bytes h ++ drop (pixelCount (h .image)) px → Loaded h
+  loaded-is : (h : DtrekHeader) → dtrekPixels bytes px ≡ storedPixels bytes h ++ drop (pixelCount (h .image)) px → Loaded bytes px h
   loaded-is h e = record {
     front = ap (take (pixelCount (h .image))) e ∙ take-at (storedPixels bytes h) (drop (pixelCount (h .image)) px) (pixelCount (h .image)) (stored-length h);
     rest = ap (drop (pixelCount (h .image))) e ∙ drop-at (storedPixels bytes h) (drop (pixelCount (h .image)) px) (pixelCount (h .image)) (stored-length h);
@@ -62,9 +57,9 @@ module _ (bytes px : List ℕ) where
   loaded-if h false true xs p = let z : _≡_ {A = ℕ} 0 1 = cc in absurd (omega arith)
   loaded-if h false false xs p = refl
 
-  pub accepted-loaded : {h : DtrekHeader} {rows columns end : ℕ} → dtrekHeader bytes ≡ H.Accepted h → dtrekAnswer bytes (length px) ≡ A.Read rows columns end → Loaded h
+  pub accepted-loaded : AcceptedLoaded bytes px
   unfolding dtrekAnswer dtrekPixels imageAnswer imagePixels
-  accepted-loaded {h} e p =
+  accepted-loaded h rows columns end e p =
       loaded-is h
       (ap (pixelsBy bytes px) e
       ∙ loaded-if h (ltb (length px) (pixelCount (h .image))) (ltb (length bytes) (imageEnd (h .image))) (storedPixels bytes h ++ drop (pixelCount (h .image)) px) (ap (answerBy bytes (length px)) (sym e) ∙ p))

@@ -16,6 +16,7 @@ use Rattle.dtrek_text.specs.Scan.{itemFrom}
 use Rattle.dtrek_text.proofs.Trims.{trimmed-take, trimmed-fits}
 use Rattle.dtrek_text.proofs.Scans.{Stands, found-stands}
 use Rattle.dtrek_report.specs.Item.{valueStart, valueEnd}
+use Rattle.dtrek_report.specs.Theorems.{ItemFirst}
 use Rattle.dtrek_report.proofs.Laws.{value-fits}
 
 -- the bytes from value_start to value_end are the value
@@ -32,9 +33,7 @@ module _ {header : List ℕ} {at start end stop : ℕ} {next : Cursor} (s : Stan
       let f : leading isWhite v + length (trimmed v) ≤ stop - suc end = omega (arith, value-fits s) in
       part-value header (suc end) stop (leading isWhite v) (length (trimmed v)) f ∙ trimmed-take v
 
--- the item at a place is the first of those from there on, and `next` is where the others are
-pub item-first : (header : List ℕ) (at : ℕ) {start end stop : ℕ} {next : Cursor} → I.Found start end stop next ≡ itemFrom header at
-    → items (drop at header) ≡ record { key = between start end header; value = between (valueStart header end stop) (valueEnd header end stop) header } ∷ items (drop (next .at) header)
-item-first header at p =
+pub item-first : (header : List ℕ) (at : ℕ) → ItemFirst header at
+item-first header at start end stop next p =
     let s = found-stands p in
     s .first ∙ rw (value-at s)
