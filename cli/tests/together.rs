@@ -35,7 +35,7 @@ fn a_thousand_corrections_by_two_and_none_is_lost() {
     let expected: HashSet<u32> = (100_000..100_500).chain(200_000..200_500).collect();
     assert_eq!(counts, expected);
     assert!(listing.ends_with("standing 1000\n"));
-    assert_eq!(f.done("verify a"), "a: held frame and ledger agree, 1000 lines, 1000 standing\n");
+    assert_eq!(f.done("verify a"), "a: held frame, ledger and sums agree, 1000 lines, 1000 standing\n");
 }
 
 fn last_number(line: &str) -> u32 {
@@ -94,7 +94,7 @@ fn a_holding_purged_while_its_lock_was_waited_for_is_missing() {
     let lock = locked(&f);
     let waiting = correcting(&f);
     thread::sleep(Duration::from_millis(200));
-    for ending in ["held", "ledger", "lock"] {
+    for ending in ["held", "ledger", "sha256", "lock"] {
         fs::remove_file(f.join(&format!("a.{ending}"))).unwrap();
     }
     drop(lock);
