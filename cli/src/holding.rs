@@ -217,7 +217,8 @@ impl Holding {
 
     /// The record and the files are not of one state.
     pub fn foreign(&self, record: &Record, stranger: &Path) -> Failure {
-        let older = self.older_by_lines(record).unwrap_or_else(|| self.older_by_time(stranger));
+        let by_lines = if stranger == self.ledger { self.older_by_lines(record) } else { None };
+        let older = by_lines.unwrap_or_else(|| self.older_by_time(stranger));
         let why = format!(
             "is the record of a change to another state than that of {}: {older}. Nothing was changed or deleted. Move \
              the older of the two to a safe place, restore what belongs to the newer, and check with `quayrudder verify`",
