@@ -1,13 +1,15 @@
 # Daily work. `make test` is the gate; the rest eases the way there.
 .PHONY: test toolchain check must-fail fmt dev skeletons paths staticlib bench bench-docs clean
 .PHONY: deps-rust deps-peers deps-bench second-reader compare compare-short soak mar-trials faults peers compare-frames
-.PHONY: deps cli cli-test demo
+.PHONY: deps cli cli-test demo model second-reader-test
 
 # What the gate runs after the proofs, in this order: targets of this file, one more line each.
 AFTER_PROOFS += staticlib
 AFTER_PROOFS += compare-short
 AFTER_PROOFS += mar-trials
 AFTER_PROOFS += cli-test
+AFTER_PROOFS += second-reader-test
+AFTER_PROOFS += model
 
 # The whole gate: every crate proved from nothing, every must-fail edit refused, every program's output compared; then the rest
 # on what was proved. The last line is the prover's verdict.
@@ -100,6 +102,10 @@ mar-trials: second-reader
 faults: deps-rust
 	tests/second_reader/faults.sh
 
+# The second reader's own trials: values worked out by hand.
+second-reader-test: deps-rust staticlib
+	cd tests/second_reader && cargo test --quiet --release --offline --target-dir ../../target/second_reader
+
 # FabIO, Debian's reader and writer of the same format, beside the library (docs/PEERS.md).
 PYTHON := /usr/bin/python3 -B
 peers: deps-peers second-reader
@@ -122,6 +128,11 @@ cli: deps staticlib
 # Runs the command in every way: each refusal, the machine failing at every step, two processes at one holding.
 cli-test: deps staticlib
 	cd cli && cargo test -q --release --offline
+
+# The protocol of lock, record, files and purge as a model (tests/model), checked by spin.
+model:
+	@tools/deps gcc spin
+	@tests/model/run.sh target/model
 
 # The main job on an example frame: README's first command.
 demo: cli

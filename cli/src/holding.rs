@@ -66,7 +66,8 @@ impl Holding {
 
     /// Reads for a question, while nobody changes the holding. An unfinished change is finished first.
     ///
-    /// No lock file is made: where there is none and none has come meanwhile, nobody has changed anything.
+    /// No lock file is made. Where there was none, what was read counts only if none has come meanwhile and the holding
+    /// is still there: only a purge removes a lock file.
     pub fn ask<T>(&self, read: impl Fn(&Holding) -> Outcome<T>) -> Outcome<T> {
         loop {
             self.must_exist()?;
@@ -78,11 +79,14 @@ impl Holding {
                 continue;
             }
             let found = read(self);
-            let disturbed = lock.is_none() && (no_lock && files::exists(&self.lock)? || files::exists(&self.redo)?);
-            if !disturbed {
+            if lock.is_some() || !self.disturbed(no_lock)? {
                 return found;
             }
         }
+    }
+
+    fn disturbed(&self, no_lock: bool) -> Outcome<bool> {
+        Ok(no_lock && files::exists(&self.lock)? || files::exists(&self.redo)? || !files::exists(&self.ledger)?)
     }
 
     /// For a change: the holding, and what is in it. An unfinished change is finished first.

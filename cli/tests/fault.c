@@ -3,7 +3,8 @@
    FAULT=readonly: every call that would make, rename or remove a file fails with EROFS.
    FAULT_LOG names a file that gets a line for each call. FAULT_MARK names one that is made when call FAULT_AT comes.
    FAULT_CLOCK: the time of day in seconds, which stands still. FAULT_EXDEV: every rename to another folder fails with EXDEV.
-   FAULT_RUN: a shell command that is run, once and without this library, before the first call that FAULT_RUN_AT names, as in the log. */
+   FAULT_RUN: a shell command that is run, without this library, once before the call that FAULT_RUN_AT names by its line, or else before
+   every call, with the line in CALL. For this, opening a file to read is a call too. */
 #define _GNU_SOURCE
 #include <dlfcn.h>
 #include <errno.h>
@@ -46,11 +47,10 @@ static void say(const char *line) {
 static void interrupt(const char *line) {
     static int done;
     const char *run = getenv("FAULT_RUN"), *at = getenv("FAULT_RUN_AT");
-    if (!run || !at || strcmp(line, at) || __atomic_exchange_n(&done, 1, __ATOMIC_SEQ_CST)) return;
-    char *command = strdup(run);
+    if (!run || (at && (strcmp(line, at) || __atomic_exchange_n(&done, 1, __ATOMIC_SEQ_CST)))) return;
+    setenv("CALL", line, 1);
     unsetenv("LD_PRELOAD");
-    if (system(command)) note("/dev/stderr", "FAULT_RUN failed\n");
-    free(command);
+    if (system(run)) note("/dev/stderr", "FAULT_RUN failed\n");
 }
 
 static int plan(const char *fault) {
@@ -162,7 +162,10 @@ int open64(const char *path, int flags, ...) {
     va_start(rest, flags);
     mode_t mode = flags & O_CREAT ? va_arg(rest, mode_t) : 0;
     va_end(rest);
-    if (!(flags & O_CREAT)) return REAL(open64, const char *, int, mode_t)(path, flags, mode);
+    if (!(flags & O_CREAT)) {
+        interrupt(line_of("open", path));
+        return REAL(open64, const char *, int, mode_t)(path, flags, mode);
+    }
     ON("create", path, 1);
     return done(planned, REAL(open64, const char *, int, mode_t)(path, flags, mode));
 }

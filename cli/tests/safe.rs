@@ -178,6 +178,23 @@ fn nothing_is_written_through_a_link() {
     assert!(ran.status == Some(3) && ran.err.contains("a.lock: cannot open it") && !f.has("elsewhere"), "{ran:?}");
 }
 
+#[test]
+fn a_question_overtaken_by_a_change_and_a_purge_finds_nothing() {
+    let f = folder();
+    f.hold("1", 100);
+    f.done("correct a 1 1");
+    fs::remove_file(f.join("a.lock")).unwrap();
+    let quayrudder = env!("CARGO_BIN_EXE_quayrudder");
+    let meanwhile = format!(
+        "case \"$CALL\" in 'open a.ledger') {quayrudder} withdraw a && {quayrudder} keep a 2020-01-01 --shorten;; \
+         'open a.sha256') {quayrudder} sweep . --delete;; esac > /dev/null 2>&1 || true"
+    );
+    let mut question = command();
+    let asked = question.args(["verify", "a"]).current_dir(f.path()).env("FAULT_RUN", meanwhile).output().unwrap();
+    let said = ran(asked);
+    assert!(said.status == Some(3) && said.err.contains("a.ledger: cannot find it") && !f.has("a.held"), "{said:?}");
+}
+
 /// A run with somebody else's file put in the way just before a call.
 fn meanwhile(f: &Folder, words: &str, call: &str) -> Ran {
     let mut run = command();
