@@ -210,7 +210,7 @@ pub enum Place {
 }
 
 /// The fixed form of a date. Whether there is such a day is for the library to say.
-fn parse_date(text: &str) -> Result<Date, String> {
+pub fn parse_date(text: &str) -> Result<Date, String> {
     let shape: String = text.chars().map(|c| if c.is_ascii_digit() { '0' } else { c }).collect();
     if shape != "0000-00-00" {
         return Err("a date is written YYYY-MM-DD, for example 2031-11-02 for 2 November 2031".into());
@@ -220,13 +220,13 @@ fn parse_date(text: &str) -> Result<Date, String> {
 }
 
 /// `2`, or `1+2`. Whether there is such a form is for the library to say.
-fn parse_form(text: &str) -> Result<Form, String> {
+pub fn parse_form(text: &str) -> Result<Form, String> {
     let (width, underflow) = text.split_once('+').unwrap_or((text, "0"));
     let number = |digits: &str| digits.parse().map_err(|_| "a form is written like 2 or 1+2".to_string());
     Ok(Form { width: number(width)?, underflow: number(underflow)? })
 }
 
-fn parse_place(text: &str) -> Result<Place, String> {
+pub fn parse_place(text: &str) -> Result<Place, String> {
     let number = |digits: &str| digits.parse().map_err(|_| "a pixel is written like 2577 or, by row and column, 5,17");
     match text.split_once(',') {
         Some((row, column)) => Ok(Place::At { row: number(row)?, column: number(column)? }),
