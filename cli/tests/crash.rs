@@ -298,7 +298,8 @@ fn a_holding_is_moved_whole_at_every_step() {
 fn calls(f: &Folder, words: &str) -> String {
     let log = f.join("log");
     assert!(prepared(f, words).env("FAULT_LOG", &log).output().unwrap().status.success());
-    let text = fs::read_to_string(log).unwrap();
+    let text = fs::read_to_string(&log).unwrap();
+    fs::remove_file(log).unwrap();
     let folder = f.path().file_name().unwrap().to_string_lossy().into_owned();
     let mut lines: Vec<String> = text.lines().filter(|line| !line.contains("pipe:")).map(without_random).collect();
     lines.dedup();
@@ -330,6 +331,42 @@ fn everything_is_synced_before_it_is_relied_on() {
     let f = before("open");
     let all = all.replace("write .a.ledger.new\n", "");
     assert_eq!(calls(&f, "open a.sfrm --form 1 -o a"), MARKED.to_string() + &all + RECORDED + placed);
+}
+
+#[test]
+fn a_change_that_is_finished_later_is_synced_as_well() {
+    let (f, _) = unfinished();
+    let first =
+        "create a.lock\n".to_string() + &calls_that_clear(&f) + "ftruncate a.lock\npwrite a.lock\nfsync a.lock\n";
+    let again = ["a.held", "a.ledger", "a.sha256"].map(staged).concat() + "fsync FOLDER\n";
+    let placed = "rename a.held\nrename a.ledger\nrename a.sha256\nfsync FOLDER\nunlink a.redo\nftruncate a.lock";
+    assert_eq!(calls(&f, "list a"), first + &again + placed);
+}
+
+/// What the killed process had not put in place yet goes first.
+fn calls_that_clear(f: &Folder) -> String {
+    let entries = fs::read_dir(f.path()).unwrap().map(|entry| entry.unwrap().file_name().into_string().unwrap());
+    let left = entries.filter(|name| name.ends_with(".quayrudder"));
+    left.map(|name| without_random(&format!("unlink {name}")) + "\n").collect()
+}
+
+#[test]
+fn an_output_is_synced_before_it_has_its_name_and_after() {
+    let f = before("open");
+    assert_eq!(calls(&f, "expand a.sfrm -o a.npy"), staged("a.npy") + "rename a.npy\nfsync FOLDER");
+    assert_eq!(calls(&f, "expand a.sfrm -o a.npy --force"), staged("a.npy") + "rename a.npy\nfsync FOLDER");
+}
+
+#[test]
+fn a_purge_that_is_given_up_is_synced() {
+    let f = before("correct");
+    faulty(&f, "sweep . --delete", "before", 1);
+    let mut killed = prepared(&f, "sweep . --delete");
+    killed.env("FAULT", "after").env("FAULT_AT", "rename a.redo").output().unwrap();
+    assert!(f.has("a.redo") && f.has("a.held"));
+    let cleared = "create a.lock\nftruncate a.lock\n";
+    assert_eq!(calls(&f, "list a"), cleared.to_string() + "unlink a.redo\nfsync FOLDER");
+    assert_eq!(state(&f), state(&before("correct")));
 }
 
 #[test]
