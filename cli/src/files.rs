@@ -98,6 +98,11 @@ pub fn stage(path: &Path, parts: &[&[u8]], access: Access) -> Outcome<Staged> {
 }
 
 impl Staged {
+    /// The file that the contents are for.
+    pub fn path(&self) -> &Path {
+        &self.path
+    }
+
     /// Puts the contents in the file's place.
     pub fn put(self) -> Outcome<()> {
         let Staged { fresh, path } = self;
@@ -108,7 +113,9 @@ impl Staged {
     pub fn put_new(self) -> Outcome<()> {
         let fresh = self.fresh.into_temp_path();
         rename_new(&fresh, &self.path).map_err(|error| match error.kind() {
-            ErrorKind::AlreadyExists => kept(&self.path),
+            ErrorKind::AlreadyExists => {
+                Failure::declined(&self.path, "has come meanwhile and is kept. Give another name")
+            }
             _ => Failure::machine(&self.path, "make")(error),
         })?;
         fresh.keep().map(drop).map_err(|lost| Failure::machine(&self.path, "make")(lost.error))
@@ -186,13 +193,9 @@ pub fn exists(path: &Path) -> Outcome<bool> {
 /// Writes an output file. One that is there is kept unless `force` is given.
 pub fn output(path: &Path, bytes: &[u8], force: bool) -> Outcome<()> {
     if !force && exists(path)? {
-        return Err(kept(path));
+        return Err(Failure::declined(path, "exists already and is kept. Give another name, or --force to replace it"));
     }
     let staged = stage(path, &[bytes], Access::of(&[path]))?;
     if force { staged.put() } else { staged.put_new() }?;
     sync_folder_of(path)
-}
-
-fn kept(path: &Path) -> Failure {
-    Failure::declined(path, "exists already and is kept. Give another name, or --force to replace it")
 }

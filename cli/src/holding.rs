@@ -334,11 +334,23 @@ impl Owned<'_> {
     }
 
     fn put(&self, staged: Vec<Staged>, put: fn(Staged) -> Outcome<()>) -> Outcome<()> {
-        staged.into_iter().try_for_each(put)?;
+        let mut placed = Vec::new();
+        for one in staged {
+            let path = one.path().to_path_buf();
+            put(one).inspect_err(|failure| self.take_back(failure, &placed))?;
+            placed.push(path);
+        }
         files::sync_folder_of(&self.holding.ledger)?;
         files::remove(&self.holding.redo)?;
         locks::unmark(&self.lock);
         Ok(())
+    }
+
+    /// Somebody else's file has come into the way of a new holding: what was placed beside it goes again.
+    fn take_back(&self, failure: &Failure, placed: &[PathBuf]) {
+        if matches!(failure, Failure::Declined { .. }) {
+            placed.iter().chain([&self.holding.redo]).for_each(|path| drop(files::remove(path)));
+        }
     }
 
     /// For a holding that is not there: its lock file goes, unless a record is there to be finished.

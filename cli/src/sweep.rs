@@ -1,7 +1,7 @@
 //! The purge job: every ledger below a folder is asked, and holdings go only where that is asked for.
 use crate::args::Sweep;
 use crate::clock::{self, date_text};
-use crate::failure::{shown, Failure, Outcome, DAMAGED, DONE};
+use crate::failure::{shown, Failure, Outcome, DAMAGED, DONE, MACHINE};
 use crate::files;
 use crate::holding::{Holding, Owned};
 use crate::ledger;
@@ -236,7 +236,7 @@ impl Job<'_> {
 
 impl Answer {
     fn failed(failure: &Failure) -> Answer {
-        Answer::Failed { why: failure.reason(), status: failure.status() }
+        Answer::Failed { why: failure.reason(), status: failure.status().max(MACHINE) }
     }
 
     fn status(&self) -> u8 {

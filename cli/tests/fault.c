@@ -2,7 +2,7 @@
    FAULT=before, after: killed before or after the call; torn: killed with half of a write done; a number: the call fails with this errno.
    FAULT=readonly: every call that would make, rename or remove a file fails with EROFS.
    FAULT_LOG names a file that gets a line for each call. FAULT_MARK names one that is made when call FAULT_AT comes.
-   FAULT_CLOCK: the time of day in seconds, which stands still. FAULT_EXDEV: every rename to another folder fails with EXDEV.
+   FAULT_CLOCK: the time of day in seconds, which stands still. FAULT_RENAMEAT2: every renameat2 fails with this errno.
    FAULT_RUN: a shell command that is run, without this library, once before the call that FAULT_RUN_AT names by its line, or else before
    every call, with the line in CALL. For this, opening a file to read is a call too. */
 #define _GNU_SOURCE
@@ -133,11 +133,15 @@ int rename(const char *from, const char *to) {
 }
 int renameat2(int from_folder, const char *from, int to_folder, const char *to, unsigned flags) {
     ON("rename", to, 1);
-    if (getenv("FAULT_EXDEV") && !strstr(from, ".quayrudder")) {
-        errno = EXDEV;
+    if (getenv("FAULT_RENAMEAT2")) {
+        errno = atoi(getenv("FAULT_RENAMEAT2"));
         return -1;
     }
     return done(planned, syscall(SYS_renameat2, from_folder, from, to_folder, to, flags));
+}
+int linkat(int from_folder, const char *from, int to_folder, const char *to, int flags) {
+    ON("link", to, 1);
+    return done(planned, REAL(linkat, int, const char *, int, const char *, int)(from_folder, from, to_folder, to, flags));
 }
 int mkdir(const char *path, mode_t mode) {
     ON("mkdir", path, 1);

@@ -209,11 +209,37 @@ fn an_output_that_came_meanwhile_is_kept() {
     f.put("a.sfrm", plain_frame());
     for (words, out) in [("expand a.sfrm -o a.npy", "a.npy"), ("view a.sfrm -o a.png", "a.png")] {
         let ran = meanwhile(&f, words, &format!("rename {out}"));
-        assert!(ran.status == Some(1) && ran.err.contains("exists already and is kept"), "{ran:?}");
+        assert!(ran.status == Some(1) && ran.err.contains("has come meanwhile and is kept"), "{ran:?}");
         assert_eq!(f.get(out), b"theirs");
     }
-    let ran = meanwhile(&f, "open a.sfrm --form 1 -o h", "rename h.held");
-    assert!(ran.status != Some(0) && f.get("h.held") == b"theirs", "{ran:?}");
+    for theirs in ["h.held", "h.ledger", "h.sha256"] {
+        let ran = meanwhile(&f, "open a.sfrm --form 1 -o h", &format!("rename {theirs}"));
+        assert!(ran.status == Some(1) && f.get(theirs) == b"theirs", "{ran:?}");
+        let own: Vec<String> = f.names().into_iter().filter(|name| name.contains("h.")).collect();
+        assert!(own.iter().all(|name| name == theirs || name == "h.lock"), "{own:?}");
+        fs::remove_file(f.join(theirs)).unwrap();
+    }
+    assert!(f.names().iter().all(|name| !name.ends_with(".quayrudder")), "{:?}", f.names());
+}
+
+#[test]
+fn a_file_system_without_such_a_rename_overwrites_nothing_either() {
+    let f = folder();
+    f.put("a.sfrm", plain_frame());
+    let run = |day: &str, words: &str| {
+        let mut run = command_on(day);
+        run.args(words.split(' ')).current_dir(f.path()).env("FAULT_RENAMEAT2", "22");
+        ran(run.output().unwrap())
+    };
+    for words in ["open a.sfrm --form 1 -o a", "expand a.sfrm -o a.npy", "keep a 2031-11-02"] {
+        assert_eq!(run(common::TODAY, words).status, Some(0), "{words}");
+    }
+    let mut late = command();
+    late.args(["expand", "a.sfrm", "-o", "b.npy"]).current_dir(f.path()).env("FAULT_RENAMEAT2", "22");
+    let late = late.env("FAULT_RUN_AT", "link b.npy").env("FAULT_RUN", "echo -n theirs > b.npy").output().unwrap();
+    assert_eq!((late.status.code(), f.get("b.npy")), (Some(1), b"theirs".to_vec()));
+    let moved = run("2031-11-03", "sweep . --into bin");
+    assert!(moved.status == Some(0) && f.sums_hold("bin/a.sha256") && !f.has("a.held"), "{moved:?}");
     assert!(f.names().iter().all(|name| !name.ends_with(".quayrudder")), "{:?}", f.names());
 }
 
@@ -247,7 +273,7 @@ fn new_files_have_the_permissions_of_any_new_file() {
     for (mask, expected) in [("022", 0o644), ("077", 0o600), ("002", 0o664)] {
         let quayrudder = env!("CARGO_BIN_EXE_quayrudder");
         let line = format!(
-            "umask {mask}; {quayrudder} open a.sfrm --form 1 -o h{mask}; {quayrudder} expand a.sfrm -o {mask}.npy"
+            "(umask {mask}; {quayrudder} open a.sfrm --form 1 -o h{mask}; {quayrudder} expand a.sfrm -o {mask}.npy) > /dev/null"
         );
         assert!(Command::new("sh").args(["-c", &line]).current_dir(f.path()).status().unwrap().success());
         let names =
@@ -256,20 +282,13 @@ fn new_files_have_the_permissions_of_any_new_file() {
     }
 }
 
-/// By Debian's own program.
-fn sums_hold(f: &Folder, name: &str) -> bool {
-    let (path, mut sums) = (f.join(name), Command::new("sha256sum"));
-    let folder = path.parent().unwrap();
-    sums.args(["--check", "--strict", "--quiet"]).arg(&path).current_dir(folder).status().unwrap().success()
-}
-
 #[test]
 fn one_flipped_bit_is_found_and_said_of_which_file() {
     let f = folder();
     f.hold("1", 100);
     f.done("correct a 3 300");
     f.done("keep a 2031-11-02");
-    assert!(sums_hold(&f, "a.sha256"));
+    assert!(f.sums_hold("a.sha256"));
     let (held, ledger) = (f.get("a.held"), f.get("a.ledger"));
     let flipped = |bytes: &[u8], place: usize| {
         let mut bytes = bytes.to_vec();
@@ -312,7 +331,7 @@ fn opening_notes_the_sum_of_the_frame_that_came_in() {
     f.done("correct a 1 1");
     let later = String::from_utf8(f.get("a.sha256")).unwrap();
     assert_eq!(sums.lines().next(), later.lines().next());
-    assert!(sums != later && sums_hold(&f, "a.sha256"));
+    assert!(sums != later && f.sums_hold("a.sha256"));
     let json = f.done("verify a --json");
     assert!(json.contains(&format!(r#""sums":"agree","frame_sha256":"{}""#, &sums[8..72])), "{json}");
 }
@@ -328,7 +347,7 @@ fn a_holding_from_before_is_sealed_once_it_agrees() {
     f.done("correct a 2 2");
     assert!(!f.has("a.sha256"));
     assert_eq!(f.done("verify --seal a"), "a: held frame and ledger agree, 2 lines, 2 standing; sums made\n");
-    assert!(sums_hold(&f, "a.sha256"));
+    assert!(f.sums_hold("a.sha256"));
     let sums = f.get("a.sha256");
     assert_eq!(f.done("verify --seal a"), "a: held frame, ledger and sums agree, 2 lines, 2 standing\n");
     assert_eq!(f.get("a.sha256"), sums);
@@ -358,7 +377,7 @@ fn a_whole_folder_is_verified_with_totals() {
     let json = f.run("verify . --seal --json").out;
     let totals: serde_json::Value = serde_json::from_str(json.lines().last().unwrap()).unwrap();
     assert_eq!((&totals["totals"]["agree"], &totals["totals"]["sums_made"]), (&2.into(), &1.into()), "{json}");
-    assert!(sums_hold(&f, "deep/b.sha256"));
+    assert!(f.sums_hold("deep/b.sha256"));
     let ran = f.run("verify nosuch");
     assert!(ran.status == Some(3) && ran.err.contains("nosuch.ledger: cannot find it"), "{ran:?}");
 }

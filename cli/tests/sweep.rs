@@ -212,10 +212,10 @@ fn a_bin_that_cannot_be_used_moves_nothing() {
     fs::create_dir(f.join("bin")).unwrap();
     f.put("bin/a.held", "another");
     let ran = f.run_on(DUE, "sweep . --into bin");
-    assert!(ran.status == Some(1) && ran.out.contains("bin/a.held: exists already and is kept"), "{ran:?}");
+    assert!(ran.status == Some(3) && ran.out.contains("bin/a.held: exists already and is kept"), "{ran:?}");
     assert_eq!((f.get("bin/a.held"), f.get("a.held")), (b"another".to_vec(), b"frame".to_vec()));
     let mut sweep = command_on(DUE);
-    sweep.args(["sweep", ".", "--into", "elsewhere"]).current_dir(f.path()).env("FAULT_EXDEV", "1");
+    sweep.args(["sweep", ".", "--into", "elsewhere"]).current_dir(f.path()).env("FAULT_RENAMEAT2", "18");
     let ran = common::ran(sweep.output().unwrap());
     assert!(ran.status == Some(3) && ran.out.contains("must be on the same file system"), "{ran:?}");
     assert!(f.has("a.held") && f.has("a.ledger") && !f.has("a.redo") && log(&f).ends_with("./a: not moved\n"));

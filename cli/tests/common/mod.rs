@@ -125,6 +125,13 @@ impl Folder {
         ran.err
     }
 
+    /// Is everything what this sums file says, by Debian's own program?
+    pub fn sums_hold(&self, name: &str) -> bool {
+        let (path, mut sums) = (self.join(name), Command::new("sha256sum"));
+        let folder = path.parent().unwrap();
+        sums.args(["--check", "--strict", "--quiet"]).arg(&path).current_dir(folder).status().unwrap().success()
+    }
+
     /// Makes a frame of 4 rows of 4 pixels, 60 to 75, and the holding `a` of it, with this much room.
     pub fn hold(&self, form: &str, room: u32) {
         self.put("a.sfrm", plain_frame());
