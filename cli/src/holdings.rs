@@ -106,9 +106,14 @@ pub fn withdraw(output: &mut Output, holding: &Holding) -> Outcome<()> {
     let ledger = lent.used(answer.lines);
     owned.commit(found.state, &Change { held: Some(&found.held), ledger: Some(ledger), notes: found.notes() })?;
     let Some(taken) = ledger::last_standing(&ledger::listing(&found.ledger)) else { return Ok(()) };
-    let name = shown(&holding.name);
-    let text = format!("{name}: line {} withdraws line {}: {}", answer.lines, taken.number, line_text(&taken));
-    output.say(&text, &json!({"name": name, "line": answer.lines, "withdraws": line_value(&taken)}))
+    let (name, now) = (shown(&holding.name), ledger::keep_date(&ledger::listing(ledger)));
+    let mut text = format!("{name}: line {} withdraws line {}: {}", answer.lines, taken.number, line_text(&taken));
+    let mut value = json!({"name": name, "line": answer.lines, "withdraws": line_value(&taken)});
+    if let Entry::Keep { .. } = taken.entry {
+        text += &now.as_ref().map_or("; no keep date stands now".into(), |now| format!("; now kept until {now}"));
+        value["kept_until"] = json!(now);
+    }
+    output.say(&text, &value)
 }
 
 /// A refusal names the file that it is about.

@@ -26,7 +26,7 @@ fn a_day_with_a_holding() {
     assert_eq!((counts(&f)[6], counts(&f)[15]), (70000, 0));
     assert_eq!(f.done("verify a"), "a: held frame, ledger and sums agree, 3 lines, 3 standing\n");
     assert_eq!(f.done("withdraw a"), "a: line 4 withdraws line 3: pixel 15 corrected from 75 to 0\n");
-    assert_eq!(f.done("withdraw a"), "a: line 5 withdraws line 2: kept until 2031-11-02\n");
+    assert_eq!(f.done("withdraw a"), "a: line 5 withdraws line 2: kept until 2031-11-02; no keep date stands now\n");
     let listing = "line 1 correct 6 66 70000\nline 2 keep 2031-11-02 withdrawn\nline 3 correct 15 75 0 withdrawn\n\
                    line 4 withdraw\nline 5 withdraw\nstanding 1\n";
     assert_eq!(f.done("list a"), listing);

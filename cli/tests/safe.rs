@@ -37,7 +37,8 @@ fn a_keep_date_is_shortened_only_where_that_is_said() {
     assert!(json.ends_with("\"former\":\"2027-01-01\"}\n"), "{json}");
     unchanged(&f, "keep a 2023-02-29", 1, "refusal 25");
     assert_eq!(f.done("keep a 0031-11-02 --shorten"), "a: line 5: kept until 0031-11-02 (was 2028-02-29)\n");
-    f.done("withdraw a");
+    let said = "a: line 6 withdraws line 5: kept until 0031-11-02; now kept until 2028-02-29\n";
+    assert_eq!(f.done("withdraw a"), said);
     unchanged(&f, "keep a 2028-02-28", 1, "before 2028-02-29, until which");
 }
 
