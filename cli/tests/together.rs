@@ -119,3 +119,40 @@ fn a_lock_file_that_was_replaced_is_not_the_lock() {
     assert_eq!(waiting.wait_with_output().unwrap().status.code(), Some(0));
     assert_eq!(f.get("a.ledger").len(), 16);
 }
+
+#[test]
+fn a_keep_date_and_a_purge_at_once_are_never_both_made() {
+    let f = folder();
+    f.put("a.sfrm", common::plain_frame());
+    for round in 0..60 {
+        f.done("open a.sfrm --form 1 -o a");
+        f.done("keep a 2031-11-02");
+        let (swept, kept) = thread::scope(|scope| {
+            let sweep = scope.spawn(|| f.run_on("2031-11-03", "sweep . --delete"));
+            thread::sleep(Duration::from_micros(100 * round));
+            let kept = f.run("keep a 2040-01-01");
+            (sweep.join().unwrap(), kept)
+        });
+        let deleted = swept.out.starts_with("deleted ");
+        assert_eq!((kept.status == Some(0), f.has("a.held")), (!deleted, !deleted), "{swept:?}, {kept:?}");
+        for ending in ["held", "ledger", "sha256", "lock"] {
+            let _ = fs::remove_file(f.join(&format!("a.{ending}")));
+        }
+    }
+}
+
+#[test]
+fn questions_beside_changes_see_one_state() {
+    let f = folder();
+    large(&f);
+    thread::scope(|scope| {
+        scope.spawn(|| {
+            for step in 0..150 {
+                f.run_quietly(&format!("correct a {step} {}", 300 + step));
+            }
+        });
+        for _ in 0..100 {
+            f.run_quietly("verify a");
+        }
+    });
+}
