@@ -6,6 +6,7 @@ use common::{command_on, folder, plain_frame, ran, Folder, Ran, TODAY};
 use std::collections::BTreeSet;
 use std::fs;
 use std::process::Command;
+use std::sync::OnceLock;
 
 const KILLS: [&str; 3] = ["before", "after", "torn"];
 /// EIO, ENOSPC, EROFS.
@@ -163,12 +164,22 @@ fn killed_and_failed_at_every_step_of_sealing() {
 
 /// A holding with a record of a correction that was not applied, and the state that it leads to.
 fn unfinished() -> (Folder, State) {
+    static MADE: OnceLock<(Vec<(String, Vec<u8>)>, State)> = OnceLock::new();
+    let (files, new) = MADE.get_or_init(make_unfinished);
+    let f = folder();
+    files.iter().for_each(|(name, bytes)| f.put(name, bytes));
+    (f, new.clone())
+}
+
+/// Killed when the record has its name: all that lies there then, and the state after the change.
+fn make_unfinished() -> (Vec<(String, Vec<u8>)>, State) {
     let f = before("correct");
     let done = before_again("correct", &state(&f));
     done.done("correct a 5 5");
-    let at = (1..40).find(|at| faulty(&f, "correct a 5 5", "after", *at).is_none() || f.has("a.redo"));
-    assert!(at.is_some() && f.has("a.redo") && state(&f) != state(&done));
-    (f, state(&done))
+    let mut killed = prepared(&f, "correct a 5 5");
+    killed.env("FAULT", "after").env("FAULT_AT", "rename a.redo").output().unwrap();
+    assert!(f.has("a.redo") && state(&f) != state(&done));
+    (f.names().into_iter().map(|name| (name.clone(), f.get(&name))).collect(), state(&done))
 }
 
 #[test]
