@@ -12,7 +12,8 @@ use std::path::{Path, PathBuf};
 /// A removal that was cut short after its first step.
 pub struct Interrupted {
     pub into: Option<PathBuf>,
-    follows: State,
+    /// The held file, while the ledger that belongs to it is still here.
+    held: Option<Digest>,
 }
 
 impl Holding {
@@ -40,7 +41,8 @@ impl Owned<'_> {
             return Ok(None);
         }
         self.must_be_partly_gone(&record, &found)?;
-        Ok(Some(Interrupted { into: record.into, follows: record.follows }))
+        let held = found.ledger.and(record.follows.held);
+        Ok(Some(Interrupted { into: record.into, held }))
     }
 
     fn must_be_partly_gone(&self, record: &Record, found: &State) -> Outcome<()> {
@@ -90,12 +92,12 @@ impl Owned<'_> {
         }
     }
 
-    /// Finishes a removal.
+    /// Finishes a removal. The ledger follows only the held file that it belongs to.
     pub fn remove_the_rest(&self, removal: &Interrupted) -> Outcome<()> {
-        if let Some(name) = &removal.into {
+        if let (Some(name), Some(digest)) = (&removal.into, removal.held) {
             let held = Holding::exactly(name, None).held;
             let moved = files::read_if_there(&held)?.map(|bytes| Digest::of(&bytes));
-            if moved != removal.follows.held {
+            if moved != Some(digest) {
                 let why = "is not the held file that was being moved here. Restore the holding from its copy";
                 return Err(Failure::damaged(&held, why));
             }

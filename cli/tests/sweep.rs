@@ -203,6 +203,42 @@ fn a_holding_moved_into_a_bin_is_whole_there_and_is_asked_again() {
     assert!(!f.has("bin/b.held") && !f.has("bin/b.ledger") && !f.has("bin/b.lock"));
 }
 
+/// A sweep that is killed after one call.
+fn killed_after(f: &Folder, words: &str, call: &str) {
+    let mut sweep = command_on(DUE);
+    sweep.args(words.split(' ')).current_dir(f.path()).env("FAULT", "after").env("FAULT_AT", call).output().unwrap();
+}
+
+#[test]
+fn a_move_cut_short_is_finished_even_after_the_bin_was_emptied() {
+    let f = folder();
+    holding(&f, "a", &KEPT);
+    killed_after(&f, "sweep . --into bin", "rename a.ledger");
+    assert!(f.has("a.redo") && f.has("bin/a.ledger") && !f.has("a.ledger"));
+    assert!(f.run_on(DUE, "sweep bin --delete").out.contains("1 deleted"));
+    let ran = f.run_on(DUE, "sweep . --into bin");
+    assert!(ran.status == Some(0) && f.names().iter().all(|name| !name.starts_with("a.")), "{ran:?}");
+}
+
+#[test]
+fn a_ledger_does_not_follow_a_held_file_that_is_gone() {
+    let f = folder();
+    holding(&f, "a", &KEPT);
+    killed_after(&f, "sweep . --into bin", "rename a.held");
+    let moved = f.get("bin/a.held");
+    f.put("bin/a.held", "another");
+    let ran = f.run_on(DUE, "sweep . --into bin");
+    let said = "bin/a.held: is not the held file that was being moved here";
+    assert!(ran.status == Some(4) && ran.out.contains(said) && f.has("a.ledger"), "{ran:?}");
+    assert!(log(&f).ends_with("./a: partly moved: held file gone\n"));
+    f.put("bin/a.held", moved);
+    let ran = f.run_on(DUE, "sweep . --delete");
+    assert!(
+        ran.status == Some(0) && ran.out.starts_with("moved         ./a  to bin/a\n") && f.has("bin/a.ledger"),
+        "{ran:?}"
+    );
+}
+
 #[test]
 fn a_bin_that_cannot_be_used_moves_nothing() {
     let f = folder();
