@@ -92,6 +92,9 @@ impl Holding {
     /// For a change: the holding, and what is in it. An unfinished change is finished first.
     pub fn change(&self) -> Outcome<(Owned<'_>, Contents)> {
         self.must_exist()?;
+        if !files::exists(&self.redo)? {
+            self.must_have_held()?;
+        }
         let owned = self.own()?;
         self.must_exist().inspect_err(|_| owned.leave_no_lock())?;
         self.read_plain().map(|contents| (owned, contents))

@@ -283,7 +283,7 @@ fn a_ledger_alone_is_no_holding_and_stays() {
         let ran = f.run(words);
         assert!(ran.status == Some(4) && ran.err.contains("a.held: is missing"), "{words}: {ran:?}");
     }
-    assert_eq!(f.get("a.ledger"), KEPT);
+    assert!(f.get("a.ledger") == KEPT && !f.has("a.lock"));
     assert_eq!(f.done("list a"), "line 1 keep 2031-11-02\nstanding 1\n");
 }
 
