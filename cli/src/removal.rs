@@ -6,6 +6,7 @@ use crate::files;
 use crate::holding::{Holding, Owned};
 use crate::locks;
 use crate::redo::{self, Record};
+use std::fs;
 use std::io::ErrorKind;
 use std::path::{Path, PathBuf};
 
@@ -76,13 +77,21 @@ impl Owned<'_> {
     /// Deletes the holding, which is in this state, or moves it to another name.
     pub fn remove(&self, follows: State, into: Option<&Path>) -> Outcome<()> {
         let holding = self.holding;
-        if let Some(name) = into {
-            files::make_folder(files::folder(name), files::folder(&holding.ledger))?;
-            must_be_free(&Holding::exactly(name, None))?;
-        }
+        let into = into.map(|name| self.make_way(name)).transpose()?;
         locks::mark(&self.lock);
-        self.record(&Record::of_removal(follows, into.map(Path::to_path_buf)))?;
-        files::sync_folder_of(&holding.redo).and_then(|()| self.take_away(into)).inspect_err(|_| self.forget_if_whole())
+        self.record(&Record::of_removal(follows, into.clone()))?;
+        files::sync_folder_of(&holding.redo)
+            .and_then(|()| self.take_away(into.as_deref()))
+            .inspect_err(|_| self.forget_if_whole())
+    }
+
+    /// The name to move to, from the root, so that whoever finds the record finds it from anywhere. Nothing may be there.
+    fn make_way(&self, name: &Path) -> Outcome<PathBuf> {
+        let folder = files::folder(name);
+        files::make_folder(folder, files::folder(&self.holding.ledger))?;
+        let folder = fs::canonicalize(folder).map_err(Failure::machine(folder, "find"))?;
+        must_be_free(&Holding::exactly(name, None))?;
+        Ok(folder.join(name.file_name().unwrap_or_default()))
     }
 
     /// A removal that failed at its first step leaves no record.
