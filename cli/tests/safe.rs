@@ -2,7 +2,7 @@
 mod common;
 use common::{command, command_on, folder, plain_frame, ran, Folder, Ran};
 use std::fs::{self, File, Permissions};
-use std::os::unix::fs::{symlink, PermissionsExt};
+use std::os::unix::fs::{chown, symlink, MetadataExt, PermissionsExt};
 use std::process::Command;
 use std::thread;
 use std::time::{Duration, Instant};
@@ -264,6 +264,19 @@ fn the_record_is_as_strict_as_the_stricter_file() {
         .all(|name| mode(name) & 0o007 == 0 || name.contains("ledger")));
     f.run("list a");
     assert_eq!(["a.held", "a.ledger", "a.sha256"].map(mode), [0o640, 0o604, 0o660]);
+}
+
+#[test]
+fn a_file_of_another_owner_stays_his() {
+    let f = folder();
+    f.hold("1", 100);
+    let mine = fs::metadata(f.join("a.ledger")).unwrap().uid();
+    if chown(f.join("a.held"), Some(1234), Some(1235)).is_err() {
+        return;
+    }
+    f.done("correct a 1 1");
+    let owner = |name: &str| fs::metadata(f.join(name)).map(|found| (found.uid(), found.gid())).unwrap();
+    assert_eq!((owner("a.held"), owner("a.ledger").0), ((1234, 1235), mine));
 }
 
 #[test]
