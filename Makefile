@@ -1,7 +1,7 @@
 # Daily work. `make test` is the gate; the rest eases the way there.
 .PHONY: test toolchain check must-fail fmt dev skeletons paths staticlib bench bench-docs clean
 .PHONY: deps-rust deps-peers deps-bench second-reader compare compare-short soak mar-trials faults peers compare-frames
-.PHONY: deps cli cli-test demo model second-reader-test
+.PHONY: deps cli cli-test demo
 
 # What the gate runs after the proofs, in this order: targets of this file, one more line each.
 AFTER_PROOFS += staticlib
@@ -102,10 +102,6 @@ mar-trials: second-reader
 faults: deps-rust
 	tests/second_reader/faults.sh
 
-# The second reader's own trials: values worked out by hand.
-second-reader-test: deps-rust staticlib
-	cd tests/second_reader && cargo test --quiet --release --offline --target-dir ../../target/second_reader
-
 # FabIO, Debian's reader and writer of the same format, beside the library (docs/PEERS.md).
 PYTHON := /usr/bin/python3 -B
 peers: deps-peers second-reader
@@ -128,6 +124,12 @@ cli: deps staticlib
 # Runs the command in every way: each refusal, the machine failing at every step, two processes at one holding.
 cli-test: deps staticlib
 	cd cli && cargo test -q --release --offline
+
+.PHONY: second-reader-test model
+
+# The second reader's own trials: values worked out by hand.
+second-reader-test: deps-rust staticlib
+	cd tests/second_reader && cargo test --quiet --release --offline --target-dir ../../target/second_reader
 
 # The protocol of lock, record, files and purge as a model (tests/model), checked by spin.
 model:
