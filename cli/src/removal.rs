@@ -111,9 +111,11 @@ impl Owned<'_> {
                 return Err(Failure::damaged(&held, why));
             }
         }
+        locks::mark(&self.lock);
         self.take_away(removal.into.as_deref())
     }
 
+    /// The lock file, which goes last, is marked by then: left alone it is known as one of a holding.
     fn take_away(&self, into: Option<&Path>) -> Outcome<()> {
         let holding = self.holding;
         let target = into.map(|name| Holding::exactly(name, None));

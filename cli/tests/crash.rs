@@ -295,6 +295,35 @@ fn a_holding_is_moved_whole_at_every_step() {
     sweep_at_every_step("sweep . --into bin", 29);
 }
 
+/// A sweep is killed when the held file has gone, and then the one that finishes it meets every fault at every call.
+fn finishing_at_every_step(sweep: &str, first: &str, least: u32) {
+    let whole = state(&before("correct"));
+    for fault in [KILLS, ERRORS].concat() {
+        let mut steps = 0;
+        loop {
+            let f = before_again("correct", &whole);
+            prepared(&f, sweep).env("FAULT", "after").env("FAULT_AT", first).output().unwrap();
+            assert!(!f.has("a.held") && f.has("a.ledger"));
+            let Some(ran) = faulty(&f, sweep, fault, steps + 1) else { break };
+            steps += 1;
+            let next = ran_again(&f, sweep);
+            assert!(next.status == Some(0) && state(&f) == GONE, "{fault} at {steps}: {ran:?}, then {next:?}");
+            let arrived = if sweep.contains("--into") { &whole } else { &GONE };
+            assert!(
+                state_of(&f, "bin/a") == *arrived && !f.has("a.redo") && !f.has("a.lock"),
+                "{fault} at {steps}: {ran:?}"
+            );
+        }
+        assert!(steps >= least, "{sweep}: only {steps} steps");
+    }
+}
+
+#[test]
+fn finishing_a_purge_or_a_move_may_be_interrupted_at_every_step_too() {
+    finishing_at_every_step("sweep . --delete", "unlink a.held", 15);
+    finishing_at_every_step("sweep . --into bin", "rename a.held", 15);
+}
+
 /// The calls of one run, without those that only say something.
 fn calls(f: &Folder, words: &str) -> String {
     let log = f.join("log");
