@@ -8,8 +8,8 @@ use std::thread;
 use std::time::{Duration, Instant};
 
 /// The three files of holding `a`.
-fn files(f: &Folder) -> [Vec<u8>; 3] {
-    ["a.held", "a.ledger", "a.sha256"].map(|name| f.get(name))
+fn files(f: &Folder) -> [Option<Vec<u8>>; 3] {
+    ["a.held", "a.ledger", "a.sha256"].map(|name| fs::read(f.join(name)).ok())
 }
 
 /// A run that must end with this status, leave the holding as it is and say this.
@@ -130,7 +130,7 @@ fn a_question_leaves_the_lock_file_to_its_owner() {
         question.args(["list", "a"]).current_dir(f.path()).stderr(std::process::Stdio::piped()).spawn().unwrap();
     thread::sleep(Duration::from_millis(200));
     for ending in ["held", "ledger", "sha256"] {
-        fs::remove_file(f.join(&format!("a.{ending}"))).unwrap();
+        let _ = fs::remove_file(f.join(&format!("a.{ending}")));
     }
     drop(lock);
     let said = ran(asking.wait_with_output().unwrap());

@@ -90,7 +90,7 @@ fn the_log_says_who_when_why_and_what_it_was() {
     f.done("keep a 2031-11-02");
     let (held, ledger) = (sum(&f, "a.held"), sum(&f, "a.ledger"));
     let bytes = f.get("a.held").len();
-    assert_eq!(f.run_on(DUE, "sweep . --delete").status, Some(0));
+    assert_eq!(f.run_on(DUE, "sweep . --day 2031-11-03 --delete").status, Some(0));
     let who = |program: &str, word: &str| {
         let ran = std::process::Command::new(program).arg(word).output().unwrap();
         String::from_utf8(ran.stdout).unwrap().trim().to_string()
@@ -110,7 +110,11 @@ fn a_deletion_that_fails_half_way_is_logged_as_what_it_is() {
     holding(&f, "a", &KEPT);
     let run = |at: &str| {
         let mut sweep = command_on(DUE);
-        sweep.args(["sweep", ".", "--delete"]).current_dir(f.path()).env("FAULT", "5").env("FAULT_AT", at);
+        sweep
+            .args(["sweep", ".", "--day", DUE, "--delete"])
+            .current_dir(f.path())
+            .env("FAULT", "5")
+            .env("FAULT_AT", at);
         ran(sweep.output().unwrap())
     };
     let failed = run("unlink a.held");
@@ -277,7 +281,7 @@ fn a_question_makes_no_file() {
 fn a_ledger_alone_is_no_holding_and_stays() {
     let f = folder();
     f.put("a.ledger", KEPT);
-    let ran = f.run_on(DUE, "sweep . --delete");
+    let ran = f.run_on(DUE, "sweep . --day 2031-11-03 --delete");
     assert!(ran.status == Some(0) && ran.out.starts_with("not a holding ./a\n") && f.has("a.ledger"), "{ran:?}");
     for words in ["keep a 2040-01-01", "may-purge a 2031-11-03", "withdraw a", "correct a 1 1", "verify a"] {
         let ran = f.run(words);
@@ -319,7 +323,7 @@ fn what_a_killed_process_left_goes_with_the_holding() {
     f.put("b.lock", "quayrudder 4711\n");
     let own = ["a.held.tmp", ".a.held.mine.quayrudder", "theirs.lock", ".c.txt.0123456789ab.quayrudder"];
     own.iter().for_each(|name| f.put(name, "mine"));
-    assert_eq!(f.run_on(DUE, "sweep . --delete").status, Some(0));
+    assert_eq!(f.run_on(DUE, "sweep . --day 2031-11-03 --delete").status, Some(0));
     let expected: Vec<&str> = vec![
         ".a.held.mine.quayrudder",
         ".c.txt.0123456789ab.quayrudder",

@@ -106,7 +106,7 @@ impl Folder {
 
     /// A holding from before there were sums.
     pub fn without_sums(&self, name: &str) {
-        fs::remove_file(self.join(&format!("{name}.sha256"))).unwrap();
+        let _ = fs::remove_file(self.join(&format!("{name}.sha256")));
     }
 
     /// Runs the command, which must do what it is asked, and gives what it says.
