@@ -162,9 +162,12 @@ fn killed_and_failed_at_every_step_of_sealing() {
     at_every_step("verify --seal a", &ERRORS, 17);
 }
 
+/// The names and bytes of all that lies in a folder.
+type Lying = Vec<(String, Vec<u8>)>;
+
 /// A holding with a record of a correction that was not applied, and the state that it leads to.
 fn unfinished() -> (Folder, State) {
-    static MADE: OnceLock<(Vec<(String, Vec<u8>)>, State)> = OnceLock::new();
+    static MADE: OnceLock<(Lying, State)> = OnceLock::new();
     let (files, new) = MADE.get_or_init(make_unfinished);
     let f = folder();
     files.iter().for_each(|(name, bytes)| f.put(name, bytes));
@@ -172,7 +175,7 @@ fn unfinished() -> (Folder, State) {
 }
 
 /// Killed when the record has its name: all that lies there then, and the state after the change.
-fn make_unfinished() -> (Vec<(String, Vec<u8>)>, State) {
+fn make_unfinished() -> (Lying, State) {
     let f = before("correct");
     let done = before_again("correct", &state(&f));
     done.done("correct a 5 5");
