@@ -9,6 +9,8 @@ AFTER_PROOFS += compare-short
 AFTER_PROOFS += mar-trials
 AFTER_PROOFS += dtrek-trials
 AFTER_PROOFS += cli-test
+AFTER_PROOFS += second-reader-test
+AFTER_PROOFS += model
 
 # The whole gate: every crate proved from nothing, every must-fail edit refused, every program's output compared; then the rest
 # on what was proved. The last line is the prover's verdict.
@@ -120,7 +122,7 @@ compare-frames: deps-peers second-reader
 
 # The command quayrudder (cli), from Debian's crates over the static library.
 CLI := target/cli/release/quayrudder
-DEBIAN := gcc $(patsubst %,librust-%-dev,chrono clap crc32fast image indicatif rayon serde-json tempfile walkdir)
+DEBIAN := gcc $(patsubst %,librust-%-dev,chrono clap image indicatif rayon rustix serde-json sha2 tempfile users walkdir)
 
 deps: deps-rust
 	@tools/deps $(DEBIAN)
@@ -131,6 +133,17 @@ cli: deps staticlib
 # Runs the command in every way: each refusal, the machine failing at every step, two processes at one holding.
 cli-test: deps staticlib
 	cd cli && cargo test -q --release --offline
+
+.PHONY: second-reader-test model
+
+# The second reader's own trials: values worked out by hand.
+second-reader-test: deps-rust staticlib
+	cd tests/second_reader && cargo test --quiet --release --offline --target-dir ../../target/second_reader
+
+# The protocol of lock, record, files and purge as a model (tests/model), checked by spin.
+model:
+	@tools/deps gcc spin
+	@tests/model/run.sh target/model
 
 # The main job on an example frame: README's first command.
 demo: cli

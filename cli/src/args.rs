@@ -6,9 +6,10 @@ use std::path::PathBuf;
 const STATUS: &str = "\
 Exit status:
   0  yes, or done
-  1  no, or refused: the sentence says why and what to do
+  1  no, or not done: the sentence says why and what to do
   2  bad usage
-  3  the machine failed: a file is missing or cannot be read, written or synced";
+  3  the machine failed: a file is missing or cannot be read, written or synced
+  4  a frame, a ledger or a holding is refused or damaged";
 
 /// Reads, holds, corrects and purges the X-ray frames of a cold archive
 #[derive(Parser)]
@@ -17,6 +18,9 @@ pub struct Cli {
     /// Answer in JSON, one object a line
     #[arg(long, global = true)]
     pub json: bool,
+    /// Wait so long for a holding that another process is at work on [default: 10 for whole folders, else without end]
+    #[arg(long, global = true, value_name = "SECONDS")]
+    pub wait: Option<u32>,
     #[command(subcommand)]
     pub command: Command,
 }
@@ -55,14 +59,18 @@ pub enum Command {
         /// The new count, 0 to 4294967295
         count: u32,
     },
-    /// Keep a holding until this day
-    #[command(after_help = "Example:\n  quayrudder keep lyso1 2031-11-02")]
+    /// Keep a holding until this day; an earlier one than before needs --shorten
+    #[command(after_help = "Examples:\n  quayrudder keep lyso1 2031-11-02\n  \
+                            quayrudder keep lyso1 2029-01-01 --shorten")]
     Keep {
         /// The holding
         name: PathBuf,
         /// The last day on which it must be kept
         #[arg(value_name = "YYYY-MM-DD", value_parser = parse_date)]
         date: Date,
+        /// Take a day before the one that stands, or before today
+        #[arg(long)]
+        shorten: bool,
     },
     /// Take back the last correction or keep date that stands
     #[command(after_help = "Example:\n  quayrudder withdraw lyso1")]
@@ -85,16 +93,14 @@ pub enum Command {
         #[arg(value_name = "YYYY-MM-DD", value_parser = parse_date)]
         day: Date,
     },
-    /// Check that held frames stand by themselves and agree with their ledgers
-    #[command(after_help = "Example:\n  quayrudder verify lyso1 lyso2")]
-    Verify {
-        /// The holdings
-        #[arg(required = true, value_name = "NAME")]
-        names: Vec<PathBuf>,
-    },
-    /// Ask every ledger below a folder whether its holding may be purged; delete only with --delete
+    /// Check that holdings are what their sums say and that held frames agree with their ledgers
+    #[command(after_help = "Examples:\n  quayrudder verify lyso1 lyso2\n  quayrudder verify archive\n  \
+                            quayrudder verify archive --seal")]
+    Verify(Verify),
+    /// Ask every ledger below a folder whether its holding may be purged; it goes only with --into or --delete
     #[command(after_help = "Examples:\n  quayrudder sweep archive --day 2031-11-03\n  \
-                            quayrudder sweep archive --day 2031-11-03 --delete --log purge.log")]
+                            quayrudder sweep archive --into bin\n  \
+                            quayrudder sweep bin --delete --log purge.log")]
     Sweep(Sweep),
 }
 
@@ -169,17 +175,30 @@ pub struct Open {
 }
 
 #[derive(Args)]
+pub struct Verify {
+    /// The holdings, or folders with holdings in them
+    #[arg(required = true, value_name = "NAME|DIR")]
+    pub names: Vec<PathBuf>,
+    /// Make the sums of holdings that agree and have none
+    #[arg(long)]
+    pub seal: bool,
+}
+
+#[derive(Args)]
 pub struct Sweep {
     /// The folder to walk
     #[arg(value_name = "DIR")]
     pub folder: PathBuf,
-    /// The day to ask for
+    /// The day to ask for, with --into or --delete none after today [default: today]
     #[arg(long, value_name = "YYYY-MM-DD", value_parser = parse_date)]
-    pub day: Date,
+    pub day: Option<Date>,
+    /// Move each holding that may be purged below this folder, on the same file system, asked again just before
+    #[arg(long, value_name = "BIN", conflicts_with = "delete")]
+    pub into: Option<PathBuf>,
     /// Delete each holding that may be purged, asked again just before
     #[arg(long)]
     pub delete: bool,
-    /// The log of deletions [default: DIR/quayrudder-purge.log]
+    /// The log of what went [default: DIR/quayrudder-purge.log]
     #[arg(long, value_name = "FILE")]
     pub log: Option<PathBuf>,
 }
@@ -191,7 +210,7 @@ pub enum Place {
 }
 
 /// The fixed form of a date. Whether there is such a day is for the library to say.
-fn parse_date(text: &str) -> Result<Date, String> {
+pub fn parse_date(text: &str) -> Result<Date, String> {
     let shape: String = text.chars().map(|c| if c.is_ascii_digit() { '0' } else { c }).collect();
     if shape != "0000-00-00" {
         return Err("a date is written YYYY-MM-DD, for example 2031-11-02 for 2 November 2031".into());
@@ -201,13 +220,13 @@ fn parse_date(text: &str) -> Result<Date, String> {
 }
 
 /// `2`, or `1+2`. Whether there is such a form is for the library to say.
-fn parse_form(text: &str) -> Result<Form, String> {
+pub fn parse_form(text: &str) -> Result<Form, String> {
     let (width, underflow) = text.split_once('+').unwrap_or((text, "0"));
     let number = |digits: &str| digits.parse().map_err(|_| "a form is written like 2 or 1+2".to_string());
     Ok(Form { width: number(width)?, underflow: number(underflow)? })
 }
 
-fn parse_place(text: &str) -> Result<Place, String> {
+pub fn parse_place(text: &str) -> Result<Place, String> {
     let number = |digits: &str| digits.parse().map_err(|_| "a pixel is written like 2577 or, by row and column, 5,17");
     match text.split_once(',') {
         Some((row, column)) => Ok(Place::At { row: number(row)?, column: number(column)? }),

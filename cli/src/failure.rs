@@ -9,6 +9,7 @@ pub const DONE: u8 = 0;
 pub const NO: u8 = 1;
 pub const USAGE: u8 = 2;
 pub const MACHINE: u8 = 3;
+pub const DAMAGED: u8 = 4;
 
 pub type Outcome<T> = Result<T, Failure>;
 
@@ -32,7 +33,17 @@ pub enum Failure {
         file: PathBuf,
         why: String,
     },
+    /// The files of a holding are not what they must be.
+    Damaged {
+        file: PathBuf,
+        why: String,
+    },
     Usage(String),
+    /// Another process has had the lock for too long.
+    InUse {
+        file: PathBuf,
+        process: Option<u32>,
+    },
     /// The machine failed, or a file is missing.
     Machine {
         file: PathBuf,
@@ -54,6 +65,10 @@ impl Failure {
         Failure::Declined { file: file.into(), why: why.into() }
     }
 
+    pub fn damaged(file: &Path, why: impl Into<String>) -> Failure {
+        Failure::Damaged { file: file.into(), why: why.into() }
+    }
+
     /// For `map_err`: what was being done to which file.
     pub fn machine(file: &Path, doing: &'static str) -> impl FnOnce(io::Error) -> Failure {
         let file = file.to_path_buf();
@@ -72,9 +87,11 @@ impl Failure {
 
     pub fn status(&self) -> u8 {
         match self {
-            Failure::Refused(_) | Failure::Declined { .. } => NO,
+            Failure::Refused(refused) => refused.status(),
+            Failure::Declined { .. } => NO,
             Failure::Usage(_) => USAGE,
-            Failure::Machine { .. } | Failure::Unread => MACHINE,
+            Failure::InUse { .. } | Failure::Machine { .. } | Failure::Unread => MACHINE,
+            Failure::Damaged { .. } => DAMAGED,
         }
     }
 
@@ -82,6 +99,10 @@ impl Failure {
         match self {
             Failure::Refused(refused) => refused.json(),
             Failure::Declined { file, why } => json!({"file": shown(file), "declined": why}),
+            Failure::Damaged { file, why } => json!({"file": shown(file), "damaged": why}),
+            Failure::InUse { file, process } => {
+                json!({"file": shown(file), "failed": self.reason(), "process": process})
+            }
             Failure::Machine { file, .. } => json!({"file": shown(file), "failed": self.to_string()}),
             Failure::Usage(why) => json!({"usage": why}),
             Failure::Unread => json!({}),
@@ -89,7 +110,26 @@ impl Failure {
     }
 }
 
+impl Failure {
+    /// The sentence where the holding is named beside it.
+    pub fn reason(&self) -> String {
+        match self {
+            Failure::InUse { process: Some(number), .. } => format!("in use by process {number}"),
+            Failure::InUse { process: None, .. } => "in use by another process".to_string(),
+            other => other.to_string(),
+        }
+    }
+}
+
 impl Refused {
+    /// What was asked for cannot be had (1), or the bytes are not what they must be.
+    fn status(&self) -> u8 {
+        match self.number {
+            10 | 16 | 17 | 18 | 21 | 22 | 24 | 25 | 26 | 27 | 37 => NO,
+            _ => DAMAGED,
+        }
+    }
+
     fn json(&self) -> Value {
         json!({
             "file": shown(&self.file), "refusal": self.number, "place": self.place, "column": self.column,
@@ -112,7 +152,8 @@ impl Display for Failure {
     fn fmt(&self, f: &mut Formatter) -> fmt::Result {
         match self {
             Failure::Refused(refused) => refused.fmt(f),
-            Failure::Declined { file, why } => write!(f, "{}: {why}", shown(file)),
+            Failure::Declined { file, why } | Failure::Damaged { file, why } => write!(f, "{}: {why}", shown(file)),
+            Failure::InUse { file, .. } => write!(f, "{}: {}", shown(file), self.reason()),
             Failure::Usage(why) => f.write_str(why),
             Failure::Machine { file, doing, error, then } if then.is_empty() => {
                 write!(f, "{}: cannot {doing} it: {error}", shown(file))
@@ -125,11 +166,20 @@ impl Display for Failure {
     }
 }
 
-/// A path on one line, whatever its bytes.
+/// A path on one line. Whatever its bytes, no other path is shown so.
 pub fn shown(path: &Path) -> String {
-    let text = path.to_string_lossy();
-    match text.chars().any(char::is_control) {
-        true => text.escape_debug().to_string(),
-        false => text.into_owned(),
+    let bytes = path.as_os_str().as_encoded_bytes();
+    match path.to_str() {
+        Some(text) if !text.chars().any(|c| c == '\\' || c.is_control()) => text.to_string(),
+        _ => bytes.utf8_chunks().map(|chunk| escaped(chunk.valid()) + &as_hex(chunk.invalid())).collect(),
     }
+}
+
+fn escaped(text: &str) -> String {
+    let escape = |c: char| if c == '\\' || c.is_control() { c.escape_default().to_string() } else { c.to_string() };
+    text.chars().map(escape).collect()
+}
+
+fn as_hex(bytes: &[u8]) -> String {
+    bytes.iter().map(|byte| format!("\\x{byte:02x}")).collect()
 }

@@ -1,12 +1,29 @@
-//! Files read whole and replaced whole.
+//! Files read whole, written anew beside their place, and put there in one step.
 use crate::failure::{Failure, Outcome};
-use std::ffi::OsString;
-use std::fs::{self, File};
-use std::io::{ErrorKind, Write};
+use rustix::fs::{cwd, renameat_with, RenameFlags};
+use rustix::io::Errno;
+use std::ffi::{OsStr, OsString};
+use std::fs::{self, DirBuilder, File, Permissions};
+use std::io::{self, ErrorKind, Write};
+use std::os::unix::ffi::OsStrExt;
+use std::os::unix::fs::{fchown, DirBuilderExt, MetadataExt, PermissionsExt};
 use std::path::{Path, PathBuf};
+use tempfile::NamedTempFile;
+
+/// A temporary file is `.FILE.RANDOM.quayrudder`, in the folder of the file that it is for.
+const ENDING: &str = ".quayrudder";
+const RANDOM: usize = 12;
 
 pub fn read(path: &Path) -> Outcome<Vec<u8>> {
     fs::read(path).map_err(Failure::machine(path, "read"))
+}
+
+/// The bytes of a file, or none where it is missing.
+pub fn read_if_there(path: &Path) -> Outcome<Option<Vec<u8>>> {
+    match fs::read(path) {
+        Err(error) if error.kind() == ErrorKind::NotFound => Ok(None),
+        found => found.map(Some).map_err(Failure::machine(path, "read")),
+    }
 }
 
 /// The path with an ending put behind its name.
@@ -24,49 +41,136 @@ pub fn folder(path: &Path) -> &Path {
     }
 }
 
-/// Puts the parts, one behind the other, in the file's place: all of them or, where this fails, what was there.
-pub fn replace(path: &Path, parts: &[&[u8]]) -> Outcome<()> {
-    stage(path, parts)?;
-    put(path)
+/// Whose a file is and who may read it.
+#[derive(Clone, Copy, Debug, PartialEq, Eq)]
+pub struct Access {
+    mode: u32,
+    owner: Option<(u32, u32)>,
 }
 
-/// Where a file's new contents stand until they take its place.
-fn staged(path: &Path) -> PathBuf {
-    with_ending(path, ".tmp")
-}
-
-/// Writes and syncs a file's new contents beside it.
-pub fn stage(path: &Path, parts: &[&[u8]]) -> Outcome<()> {
-    write_synced(&staged(path), path, parts).inspect_err(|_| unstage(path))
-}
-
-/// Puts the contents written beside a file in its place.
-pub fn put(path: &Path) -> Outcome<()> {
-    fs::rename(staged(path), path).map_err(Failure::machine(path, "replace")).inspect_err(|_| unstage(path))
-}
-
-/// Removes the contents written beside a file, if there are any.
-pub fn unstage(path: &Path) {
-    let _ = fs::remove_file(staged(path));
-}
-
-/// Writes a file to its last byte on the disk, with the permissions of the one that it is to replace.
-fn write_synced(fresh: &Path, old: &Path, parts: &[&[u8]]) -> Outcome<()> {
-    let failed = || Failure::machine(fresh, "write");
-    let mut file = File::create(fresh).map_err(failed())?;
-    if let Ok(found) = fs::metadata(old) {
-        file.set_permissions(found.permissions()).map_err(failed())?;
+impl Access {
+    /// The strictest of the files that are there, else that of any new file.
+    pub fn of(paths: &[&Path]) -> Access {
+        let found: Vec<fs::Metadata> = paths.iter().filter_map(|path| fs::metadata(path).ok()).collect();
+        let mode = found.iter().map(|file| file.mode() & 0o7777).reduce(|mode, other| mode & other);
+        let owner = found.first().map(|file| (file.uid(), file.gid()));
+        Access { mode: mode.unwrap_or_else(mode_of_a_new_file), owner }
     }
+
+    /// Only root may give a file away. Who may not stays its owner, as with any file that is written anew.
+    fn give(&self, file: &File) -> io::Result<()> {
+        let made = file.metadata()?;
+        if let Some((user, group)) = self.owner.filter(|owner| *owner != (made.uid(), made.gid())) {
+            let _ = fchown(file, Some(user), Some(group));
+        }
+        file.set_permissions(Permissions::from_mode(self.mode))
+    }
+}
+
+/// What the process's mask leaves, and nothing for others where the mask cannot be had.
+fn mode_of_a_new_file() -> u32 {
+    let status = fs::read_to_string("/proc/self/status").unwrap_or_default();
+    let mask = status.lines().find_map(|line| line.strip_prefix("Umask:"));
+    let mask = mask.and_then(|digits| u32::from_str_radix(digits.trim(), 8).ok());
+    0o666 & !mask.unwrap_or(0o077)
+}
+
+/// New contents, written and synced beside the file that they are for. Dropped, they are removed.
+pub struct Staged {
+    fresh: NamedTempFile,
+    path: PathBuf,
+}
+
+/// Writes and syncs a file's new contents beside it, in a file that nobody else has or can foresee.
+pub fn stage(path: &Path, parts: &[&[u8]], access: Access) -> Outcome<Staged> {
+    let failed = || Failure::machine(path, "write");
+    let mut start = OsString::from(".");
+    start.push(path.file_name().unwrap_or_default());
+    start.push(".");
+    let mut builder = tempfile::Builder::new();
+    builder.prefix(&start).suffix(ENDING).rand_bytes(RANDOM);
+    let mut fresh = builder.tempfile_in(folder(path)).map_err(failed())?;
     for part in parts {
-        file.write_all(part).map_err(failed())?;
+        fresh.write_all(part).map_err(failed())?;
     }
-    file.sync_all().map_err(failed())
+    access.give(fresh.as_file()).and_then(|()| fresh.as_file().sync_all()).map_err(failed())?;
+    Ok(Staged { fresh, path: path.into() })
+}
+
+impl Staged {
+    /// The file that the contents are for.
+    pub fn path(&self) -> &Path {
+        &self.path
+    }
+
+    /// Puts the contents in the file's place.
+    pub fn put(self) -> Outcome<()> {
+        let Staged { fresh, path } = self;
+        fresh.persist(&path).map(drop).map_err(|lost| Failure::machine(&path, "replace")(lost.error))
+    }
+
+    /// Puts the contents where no file is, or else leaves what is there.
+    pub fn put_new(self) -> Outcome<()> {
+        let fresh = self.fresh.into_temp_path();
+        rename_new(&fresh, &self.path).map_err(|error| match error.kind() {
+            ErrorKind::AlreadyExists => {
+                Failure::declined(&self.path, "has come meanwhile and is kept. Give another name")
+            }
+            _ => Failure::machine(&self.path, "make")(error),
+        })?;
+        fresh.keep().map(drop).map_err(|lost| Failure::machine(&self.path, "make")(lost.error))
+    }
+}
+
+/// Renames without overwriting, in one step. Where the file system has no such call, a second name is as good.
+pub fn rename_new(from: &Path, to: &Path) -> io::Result<()> {
+    match renameat_with(cwd(), from, cwd(), to, RenameFlags::NOREPLACE) {
+        Err(Errno::INVAL | Errno::NOSYS | Errno::NOTSUP) => {
+            fs::hard_link(from, to).and_then(|()| fs::remove_file(from))
+        }
+        renamed => renamed.map_err(io::Error::from),
+    }
+}
+
+/// The name of the file that a temporary file was for.
+pub fn staged_for(name: &OsStr) -> Option<&OsStr> {
+    let name = name.as_bytes().strip_prefix(b".")?.strip_suffix(ENDING.as_bytes())?;
+    let (file, random) = name.split_at_checked(name.len().checked_sub(RANDOM + 1)?)?;
+    let is_random = random.strip_prefix(b".")?.iter().all(u8::is_ascii_alphanumeric);
+    (is_random && !file.is_empty()).then_some(OsStr::from_bytes(file))
+}
+
+/// Removes the temporary files that a killed process left for these files, which lie in one folder.
+pub fn remove_leftovers(paths: &[&Path]) -> Outcome<()> {
+    let folder = folder(paths[0]);
+    let failed = || Failure::machine(folder, "read");
+    for entry in fs::read_dir(folder).map_err(failed())? {
+        let entry = entry.map_err(failed())?;
+        let name = entry.file_name();
+        if staged_for(&name).is_some_and(|file| paths.iter().any(|path| path.file_name() == Some(file))) {
+            remove(&entry.path())?;
+        }
+    }
+    Ok(())
 }
 
 /// Makes what was renamed or removed in a file's folder last.
 pub fn sync_folder_of(path: &Path) -> Outcome<()> {
     let folder = folder(path);
     File::open(folder).and_then(|open| open.sync_all()).map_err(Failure::machine(folder, "sync"))
+}
+
+/// Makes a folder and those that it lies in, as strict as another one, and makes them last.
+pub fn make_folder(path: &Path, like: &Path) -> Outcome<()> {
+    if path.is_dir() {
+        return Ok(());
+    }
+    make_folder(folder(path), like)?;
+    let mode = fs::metadata(like).map_or(0o700, |found| found.mode() & 0o777);
+    match DirBuilder::new().mode(mode).create(path) {
+        Err(error) if error.kind() != ErrorKind::AlreadyExists => Err(Failure::machine(path, "make")(error)),
+        _ => sync_folder_of(path),
+    }
 }
 
 /// Removes a file that may be missing already.
@@ -91,6 +195,7 @@ pub fn output(path: &Path, bytes: &[u8], force: bool) -> Outcome<()> {
     if !force && exists(path)? {
         return Err(Failure::declined(path, "exists already and is kept. Give another name, or --force to replace it"));
     }
-    replace(path, &[bytes])?;
+    let staged = stage(path, &[bytes], Access::of(&[path]))?;
+    if force { staged.put() } else { staged.put_new() }?;
     sync_folder_of(path)
 }

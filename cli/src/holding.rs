@@ -1,99 +1,135 @@
-//! A holding: NAME.held, the buffer with its room; NAME.ledger, 16 bytes for each line; NAME.lock; and, while a change is
-//! being made, NAME.redo.
+//! A holding: NAME.held, the buffer with its room; NAME.ledger, 16 bytes for each line; NAME.sha256, the sums of both;
+//! and, while a change is being made, NAME.lock and NAME.redo.
+use crate::clock::time_text;
+use crate::digest::{Digest, State};
 use crate::failure::{shown, Failure, Outcome};
-use crate::files;
-use crate::locks::{self, Kind};
-use crate::redo::{self, Change};
+use crate::files::{self, Access, Staged};
+use crate::ledger;
+use crate::locks;
+use crate::redo::{self, Record};
+use crate::sums::Sums;
 use std::fs::{self, File};
 use std::io::{Error, ErrorKind};
-use std::ops::Deref;
 use std::path::{Path, PathBuf};
+use std::time::Duration;
 
 pub struct Holding {
     pub name: PathBuf,
     pub held: PathBuf,
     pub ledger: PathBuf,
+    pub sums: PathBuf,
     pub redo: PathBuf,
     pub lock: PathBuf,
+    /// How long another process is waited for; without end where this is none.
+    wait: Option<Duration>,
 }
 
-/// A holding that nobody changes meanwhile.
-pub struct Asked<'a> {
-    holding: &'a Holding,
-    /// None where the folder is read-only and has no lock file.
-    _lock: Option<File>,
+/// The files of a holding at one time, as their sums say. A holding from before this was done has no sums.
+pub struct Contents {
+    pub held: Vec<u8>,
+    pub ledger: Vec<u8>,
+    pub sums: Option<Sums>,
+    pub state: State,
+}
+
+/// New contents. A file without stays as it is, and the sums are written where there are notes for them.
+#[derive(Default)]
+pub struct Change<'a> {
+    pub held: Option<&'a [u8]>,
+    pub ledger: Option<&'a [u8]>,
+    pub notes: Option<&'a [u8]>,
 }
 
 /// A holding that nobody else looks at or changes meanwhile.
-pub struct Owned<'a>(Asked<'a>);
+pub struct Owned<'a> {
+    pub holding: &'a Holding,
+    pub lock: File,
+}
 
 impl Holding {
     /// The holding of this name. The name of its held file or of its ledger will do.
-    pub fn named(path: &Path) -> Outcome<Holding> {
+    pub fn named(path: &Path, wait: Option<Duration>) -> Outcome<Holding> {
         let ends = path.extension().is_some_and(|ending| ending == "held" || ending == "ledger");
         let name = if ends { path.with_extension("") } else { path.to_path_buf() };
-        if name.file_name().is_none() || path.to_string_lossy().ends_with('/') {
+        if name.file_name().is_none() || path.as_os_str().as_encoded_bytes().ends_with(b"/") {
             return Err(Failure::Usage(format!("`{}` is no name for a holding", shown(path))));
         }
-        Ok(Holding::exactly(&name))
+        Ok(Holding::exactly(&name, wait))
     }
 
     /// The holding of just this name.
-    pub fn exactly(name: &Path) -> Holding {
+    pub fn exactly(name: &Path, wait: Option<Duration>) -> Holding {
         let file = |ending| files::with_ending(name, ending);
-        let (held, ledger, redo, lock) = (file(".held"), file(".ledger"), file(".redo"), file(".lock"));
-        Holding { name: name.into(), held, ledger, redo, lock }
+        let [held, ledger, sums] = [".held", ".ledger", ".sha256"].map(file);
+        Holding { name: name.into(), held, ledger, sums, redo: file(".redo"), lock: file(".lock"), wait }
     }
 
-    /// For a question. An unfinished change is finished first.
-    pub fn ask(&self) -> Outcome<Asked<'_>> {
-        self.must_exist()?;
-        let lock = match locks::lock(&self.lock, Kind::Shared) {
-            Ok(lock) => Some(lock),
-            Err(Failure::Machine { error, .. }) if locks::forbidden(&error) => None,
-            Err(other) => return Err(other),
-        };
-        self.must_still_exist()?;
-        if files::exists(&self.redo)? {
-            drop(lock);
-            return self.change().map(|owned| owned.0);
+    /// Reads for a question, while nobody changes the holding. An unfinished change is finished first.
+    ///
+    /// No lock file is made. Where there was none, what was read counts only if none has come meanwhile and the holding
+    /// is still there: only a purge removes a lock file.
+    pub fn ask<T>(&self, read: impl Fn(&Holding) -> Outcome<T>) -> Outcome<T> {
+        loop {
+            self.must_exist()?;
+            let no_lock = !files::exists(&self.lock)?;
+            let lock = locks::shared(&self.lock, self.wait)?;
+            if files::exists(&self.redo)? {
+                drop(lock);
+                self.own()?;
+                continue;
+            }
+            let found = read(self);
+            if lock.is_some() || !self.disturbed(no_lock)? {
+                return found;
+            }
         }
-        Ok(Asked { holding: self, _lock: lock })
     }
 
-    /// For a change. An unfinished one is finished first.
-    pub fn change(&self) -> Outcome<Owned<'_>> {
+    fn disturbed(&self, no_lock: bool) -> Outcome<bool> {
+        Ok(no_lock && files::exists(&self.lock)? || files::exists(&self.redo)? || !files::exists(&self.ledger)?)
+    }
+
+    /// For a change: the holding, and what is in it. An unfinished change is finished first.
+    pub fn change(&self) -> Outcome<(Owned<'_>, Contents)> {
         self.must_exist()?;
+        if !files::exists(&self.redo)? {
+            self.must_have_held()?;
+        }
         let owned = self.own()?;
-        self.must_still_exist()?;
-        for path in [&self.held, &self.ledger] {
-            must_be_plain(path)?;
-        }
-        Ok(owned)
+        self.must_exist().inspect_err(|_| owned.leave_no_lock())?;
+        self.read_plain().map(|contents| (owned, contents))
     }
 
     /// For a new holding of this name.
     pub fn create(&self) -> Outcome<Owned<'_>> {
         let owned = self.own()?;
-        for path in [&self.held, &self.ledger] {
+        for path in [&self.held, &self.ledger, &self.sums] {
             if files::exists(path)? {
+                owned.leave_no_lock();
                 return Err(Failure::declined(path, "exists already and is kept. Give the new holding another name"));
             }
         }
         Ok(owned)
     }
 
+    /// The holding for this process alone, with no change unfinished.
     fn own(&self) -> Outcome<Owned<'_>> {
-        let lock = locks::lock(&self.lock, Kind::Exclusive)?;
-        let owned = Owned(Asked { holding: self, _lock: Some(lock) });
-        if files::exists(&self.redo)? {
-            owned.finish()?;
-            eprintln!("quayrudder: {}: a change that had been interrupted is finished", shown(&self.name));
+        let owned = self.lock_alone()?;
+        owned.settle()?;
+        Ok(owned)
+    }
+
+    /// Locks the holding, and removes what a process that was killed here left behind.
+    pub fn lock_alone(&self) -> Outcome<Owned<'_>> {
+        let owned = Owned { holding: self, lock: locks::exclusive(&self.lock, self.wait)? };
+        if locks::is_marked(&owned.lock) {
+            files::remove_leftovers(&[&self.held, &self.ledger, &self.sums, &self.redo])?;
+            locks::unmark(&owned.lock);
         }
         Ok(owned)
     }
 
-    fn must_exist(&self) -> Outcome<()> {
+    pub fn must_exist(&self) -> Outcome<()> {
         match files::exists(&self.ledger)? || files::exists(&self.redo)? {
             true => Ok(()),
             false => Err(Failure::machine(&self.ledger, "find")(Error::from(ErrorKind::NotFound))
@@ -101,91 +137,233 @@ impl Holding {
         }
     }
 
-    /// The holding may have been purged while its lock was waited for; the lock file is then new and goes again.
-    fn must_still_exist(&self) -> Outcome<()> {
-        self.must_exist().inspect_err(|_| {
-            let _ = files::remove(&self.lock);
+    pub fn must_have_held(&self) -> Outcome<()> {
+        match files::exists(&self.held)? {
+            true => Ok(()),
+            false => Err(Failure::damaged(
+                &self.held,
+                "is missing, and a ledger without its held file says nothing. Restore it from its copy",
+            )),
+        }
+    }
+
+    /// The ledger, if it is what its sum says.
+    pub fn read_ledger(&self) -> Outcome<Vec<u8>> {
+        let ledger = files::read(&self.ledger)?;
+        if let Some(sums) = self.read_sums()? {
+            let digest = Digest::of(&ledger);
+            self.must_match(&[(&self.ledger, sums.ledger, digest)])?;
+        }
+        Ok(ledger)
+    }
+
+    /// Both files, if they are what their sums say.
+    pub fn read_whole(&self) -> Outcome<Contents> {
+        self.must_have_held()?;
+        let (held, ledger) = (files::read(&self.held)?, files::read(&self.ledger)?);
+        let digests = (Digest::of(&held), Digest::of(&ledger));
+        let sums = self.read_sums()?;
+        if let Some(sums) = &sums {
+            self.must_match(&[(&self.held, sums.held, digests.0), (&self.ledger, sums.ledger, digests.1)])?;
+        }
+        let state = State { held: Some(digests.0), ledger: Some(digests.1) };
+        Ok(Contents { held, ledger, sums, state })
+    }
+
+    /// The same, for files that are to be replaced: a link would be cut off from what it points to.
+    pub fn read_plain(&self) -> Outcome<Contents> {
+        [&self.held, &self.ledger, &self.sums].into_iter().try_for_each(|path| must_be_plain(path))?;
+        self.read_whole()
+    }
+
+    fn read_sums(&self) -> Outcome<Option<Sums>> {
+        let Some(bytes) = files::read_if_there(&self.sums)? else { return Ok(None) };
+        let sums = Sums::parse(&bytes, &self.held, &self.ledger);
+        let why = "does not have the sums of this holding's two files. Look whether they are whole; \
+                   then move it to a safe place and make the sums anew with `quayrudder verify --seal`";
+        sums.map(Some).ok_or_else(|| Failure::damaged(&self.sums, why))
+    }
+
+    /// Says which of these files is not what its sum says.
+    fn must_match(&self, files: &[(&PathBuf, [u8; 32], Digest)]) -> Outcome<()> {
+        let differs: Vec<&PathBuf> =
+            files.iter().filter(|(_, sum, found)| *sum != found.sha256).map(|(path, ..)| *path).collect();
+        let sums = shown(&self.sums);
+        match differs[..] {
+            [] => Ok(()),
+            [file] => Err(Failure::damaged(
+                file,
+                format!("differs from its sum in {sums}. Restore the holding from its copy"),
+            )),
+            _ => {
+                let why = format!("differs from its sum in {sums}, and so does {}: ", shown(differs[1]));
+                let advice = "these files are not of one state. Restore all of them from one copy";
+                Err(Failure::damaged(differs[0], why + advice))
+            }
+        }
+    }
+
+    /// Held file and ledger as they are now.
+    pub fn found(&self) -> Outcome<State> {
+        let digest = |path| files::read_if_there(path).map(|found| found.map(|bytes| Digest::of(&bytes)));
+        Ok(State { held: digest(&self.held)?, ledger: digest(&self.ledger)? })
+    }
+
+    /// A record belongs to the files where each of them is as before it or as after it.
+    fn must_belong(&self, record: &Record, found: &State) -> Outcome<()> {
+        let (follows, makes) = (&record.follows, &record.makes);
+        let held = found.held == follows.held || found.held == makes.held;
+        let ledger = found.ledger == follows.ledger || found.ledger == makes.ledger;
+        let stranger = match (held, ledger) {
+            (true, true) => return Ok(()),
+            (_, false) => &self.ledger,
+            (false, true) => &self.held,
+        };
+        Err(self.foreign(record, stranger))
+    }
+
+    /// The record and the files are not of one state.
+    pub fn foreign(&self, record: &Record, stranger: &Path) -> Failure {
+        let by_lines = if stranger == self.ledger { self.older_by_lines(record) } else { None };
+        let older = by_lines.unwrap_or_else(|| self.older_by_time(stranger));
+        let why = format!(
+            "is the record of a change to another state than that of {}: {older}. Nothing was changed or deleted. Move \
+             the older of the two to a safe place, restore what belongs to the newer, and check with `quayrudder verify`",
+            shown(stranger)
+        );
+        Failure::damaged(&self.redo, why)
+    }
+
+    /// Lines are only ever appended, so the ledger that goes on from the other is the newer one.
+    fn older_by_lines(&self, record: &Record) -> Option<String> {
+        let (now, then) = (fs::read(&self.ledger).ok()?, record.ledger?);
+        let lines = |bytes: &[u8]| ledger::lines(bytes);
+        if now.starts_with(then) && now.len() > then.len() {
+            return Some(format!(
+                "the record is older, it makes line {} and the ledger has {}",
+                lines(then),
+                lines(&now)
+            ));
+        }
+        (then.starts_with(&now) && now.len() < then.len()).then(|| {
+            format!("the ledger is older, it has {} lines and the record makes line {}", lines(&now), lines(then))
         })
     }
+
+    fn older_by_time(&self, stranger: &Path) -> String {
+        let time = |path: &Path| fs::metadata(path).and_then(|found| found.modified()).ok();
+        match (time(&self.redo), time(stranger)) {
+            (Some(record), Some(file)) => {
+                let older = if record < file { "record" } else { "file" };
+                let (record, file) = (time_text(record), time_text(file));
+                format!("by their times the {older} is older, {record} for the record and {file} for the file")
+            }
+            _ => format!("{} is missing", shown(stranger)),
+        }
+    }
 }
 
-impl Asked<'_> {
-    pub fn read_held(&self) -> Outcome<Vec<u8>> {
-        files::read(&self.holding.held)
-    }
-
-    pub fn read_ledger(&self) -> Outcome<Vec<u8>> {
-        files::read(&self.holding.ledger)
-    }
-}
-
-impl<'a> Deref for Owned<'a> {
-    type Target = Asked<'a>;
-
-    fn deref(&self) -> &Asked<'a> {
-        &self.0
+impl Contents {
+    /// Where the holding has sums, a change writes them anew.
+    pub fn notes(&self) -> Option<&[u8]> {
+        self.sums.as_ref().map(|sums| sums.notes.as_slice())
     }
 }
 
 impl Owned<'_> {
-    /// Makes the change, in both files or in neither. Everything that takes room on the disk comes before the record has
+    /// Makes the change, in all files or in none. Everything that takes room on the disk comes before the record has
     /// its name.
-    pub fn commit(&self, change: &Change) -> Outcome<()> {
+    pub fn commit(&self, follows: State, change: &Change) -> Outcome<()> {
         let holding = self.holding;
-        self.stage(change).and_then(|()| redo::record(&holding.redo, change)).map_err(|failure| {
-            files::unstage(&holding.held);
-            files::unstage(&holding.ledger);
-            failure.so("The holding is as it was before.")
-        })?;
-        let recorded = "The change is recorded, and the next command on this holding finishes it.";
-        files::sync_folder_of(&holding.redo).and_then(|()| self.put(change)).map_err(|failure| failure.so(recorded))
+        let digest = |new: Option<&[u8]>, old| new.map(Digest::of).or(old);
+        let makes = State { held: digest(change.held, follows.held), ledger: digest(change.ledger, follows.ledger) };
+        let sums = change.notes.and_then(|notes| self.sums_of(makes, notes));
+        let (held, ledger, sums) = (change.held, change.ledger, sums.as_deref());
+        let record = Record { follows, makes, held, ledger, sums, into: None };
+        locks::mark(&self.lock);
+        let staged = self.stage(&record).and_then(|staged| self.record(&record).map(|()| staged));
+        let staged = staged.map_err(|failure| failure.so("The holding is as it was before."))?;
+        let put = if follows == State::default() { Staged::put_new } else { Staged::put };
+        files::sync_folder_of(&holding.redo)
+            .and_then(|()| self.put(staged, put))
+            .map_err(|failure| failure.so("The change is recorded, and the next command on this holding finishes it."))
     }
 
-    /// Finishes the change that the record says.
-    fn finish(&self) -> Outcome<()> {
-        let bytes = files::read(&self.holding.redo)?;
-        let change = redo::read(&self.holding.redo, &bytes)?;
-        self.stage(&change)
-            .and_then(|()| files::sync_folder_of(&self.holding.redo))
-            .and_then(|()| self.put(&change))
+    fn sums_of(&self, state: State, notes: &[u8]) -> Option<Vec<u8>> {
+        let sums = Sums { held: state.held?.sha256, ledger: state.ledger?.sha256, notes: notes.to_vec() };
+        Some(sums.bytes(&self.holding.held, &self.holding.ledger))
+    }
+
+    /// Puts the record in place. Where this fails before it has its name, nothing has changed.
+    pub fn record(&self, record: &Record) -> Outcome<()> {
+        let holding = self.holding;
+        let access = Access::of(&[&holding.held, &holding.ledger]);
+        record.write(|parts| files::stage(&holding.redo, parts, access)?.put())
+    }
+
+    /// Finishes the change that a record says, or gives up a purge that has not begun.
+    pub fn settle(&self) -> Outcome<()> {
+        let holding = self.holding;
+        let Some(bytes) = files::read_if_there(&holding.redo)? else { return Ok(()) };
+        let record = redo::read(&holding.redo, &bytes)?;
+        let found = holding.found()?;
+        let done = match record.is_removal() {
+            true => self.give_up(&record, &found).map(|()| "a purge that had been interrupted is given up"),
+            false => self.finish(&record, &found).map(|()| "a change that had been interrupted is finished"),
+        };
+        eprintln!("quayrudder: {}: {}", shown(&holding.name), done?);
+        Ok(())
+    }
+
+    fn finish(&self, record: &Record, found: &State) -> Outcome<()> {
+        self.holding.must_belong(record, found)?;
+        locks::mark(&self.lock);
+        self.stage(record)
+            .and_then(|staged| files::sync_folder_of(&self.holding.redo).map(|()| staged))
+            .and_then(|staged| self.put(staged, Staged::put))
             .map_err(|failure| failure.so("An earlier change is recorded and unfinished; nothing else was done."))
     }
 
-    fn stage(&self, change: &Change) -> Outcome<()> {
-        if let Some(held) = change.held {
-            files::stage(&self.holding.held, &[held])?;
-        }
-        files::stage(&self.holding.ledger, &[change.ledger])
+    fn stage(&self, record: &Record) -> Outcome<Vec<Staged>> {
+        let Holding { held, ledger, sums, .. } = self.holding;
+        let sums_like = if files::exists(sums)? { Access::of(&[sums]) } else { Access::of(&[held, ledger]) };
+        let contents = [
+            (held, record.held, Access::of(&[held])),
+            (ledger, record.ledger, Access::of(&[ledger])),
+            (sums, record.sums, sums_like),
+        ];
+        let given = contents.into_iter().filter_map(|(path, bytes, access)| bytes.map(|bytes| (path, bytes, access)));
+        given.map(|(path, bytes, access)| files::stage(path, &[bytes], access)).collect()
     }
 
-    fn put(&self, change: &Change) -> Outcome<()> {
-        let holding = self.holding;
-        if change.held.is_some() {
-            files::put(&holding.held)?;
+    fn put(&self, staged: Vec<Staged>, put: fn(Staged) -> Outcome<()>) -> Outcome<()> {
+        let mut placed = Vec::new();
+        for one in staged {
+            let path = one.path().to_path_buf();
+            put(one).inspect_err(|failure| self.take_back(failure, &placed))?;
+            placed.push(path);
         }
-        files::put(&holding.ledger)?;
-        files::sync_folder_of(&holding.ledger)?;
-        files::remove(&holding.redo)
+        files::sync_folder_of(&self.holding.ledger)?;
+        files::remove(&self.holding.redo)?;
+        locks::unmark(&self.lock);
+        Ok(())
     }
 
-    /// For a holding that could not be made: its lock file goes, unless a record is there to be finished.
+    /// Somebody else's file has come into the way of a new holding: what was placed beside it goes again.
+    fn take_back(&self, failure: &Failure, placed: &[PathBuf]) {
+        if matches!(failure, Failure::Declined { .. }) {
+            placed.iter().chain([&self.holding.redo]).for_each(|path| drop(files::remove(path)));
+        }
+    }
+
+    /// For a holding that is not there: its lock file goes, unless a record is there to be finished.
     pub fn leave_no_lock(&self) {
         if self.holding.must_exist().is_err() {
             let _ = files::remove(&self.holding.lock);
         }
     }
-
-    /// Deletes the holding. The ledger goes after the held file: while it is there, the purge can be asked for again.
-    pub fn delete(self) -> Outcome<()> {
-        let holding = self.holding;
-        for path in [&holding.held, &holding.ledger, &holding.lock] {
-            files::remove(path)?;
-        }
-        files::sync_folder_of(&holding.ledger)
-    }
 }
 
-/// A change puts new files in place, which would cut a link off from what it points to.
 fn must_be_plain(path: &Path) -> Outcome<()> {
     match fs::symlink_metadata(path) {
         Ok(found) if found.is_symlink() => {

@@ -1,19 +1,21 @@
-//! The commands on holdings: open, correct, keep, withdraw, list, may-purge, verify.
+//! The commands on one holding: open, correct, keep, withdraw, list, may-purge.
 use crate::args::{Open, Place};
+use crate::clock::{self, date_text};
+use crate::digest::{Digest, State};
 use crate::failure::{shown, Failure, Outcome, Refused, NO};
 use crate::files;
 use crate::frames;
-use crate::holding::{Asked, Holding};
+use crate::holding::{Change, Holding};
 use crate::ledger::{self, Entry, Lent, Line};
 use crate::output::Output;
-use crate::redo::Change;
 use crate::refusals::sentence;
+use crate::sums;
 use quayrudder::Date;
 use serde_json::{json, Value};
-use std::path::{Path, PathBuf};
+use std::time::Duration;
 
-pub fn open(output: &mut Output, asked: &Open) -> Outcome<()> {
-    let holding = Holding::named(&asked.output)?;
+pub fn open(output: &mut Output, asked: &Open, wait: Option<Duration>) -> Outcome<()> {
+    let holding = Holding::named(&asked.output, wait)?;
     let frame = files::read(&asked.frame)?;
     let header = frames::header(&asked.frame, &frame)?;
     let mut pixels = vec![0; frames::pixel_count(&header)];
@@ -24,7 +26,9 @@ pub fn open(output: &mut Output, asked: &Open) -> Outcome<()> {
     }
     held.resize(answer.length as usize + asked.room as usize, 0);
     let owned = holding.create()?;
-    owned.commit(&Change { held: Some(&held), ledger: &[] }).inspect_err(|_| owned.leave_no_lock())?;
+    let notes = sums::frame_note(&Digest::of(&frame).sha256, &asked.frame);
+    let change = Change { held: Some(&held), ledger: Some(&[]), notes: Some(&notes) };
+    owned.commit(State::default(), &change).inspect_err(|_| owned.leave_no_lock())?;
     let (name, form) = (shown(&holding.name), frames::form_text(asked.form.width, asked.form.underflow));
     let (rows, columns, room) = (answer.rows, answer.columns, asked.room);
     let text = format!(
@@ -38,17 +42,18 @@ pub fn open(output: &mut Output, asked: &Open) -> Outcome<()> {
     output.say(&text, &value)
 }
 
-pub fn correct(output: &mut Output, name: &Path, place: Place, count: u32) -> Outcome<()> {
-    let holding = Holding::named(name)?;
-    let owned = holding.change()?;
-    let mut held = owned.read_held()?;
-    let mut lent = Lent::new(owned.read_ledger()?, 1);
-    let pixel = pixel_number(place, &held);
-    let answer = quayrudder::correct(&mut held, &mut lent.bytes, lent.lines, pixel, count);
-    accepted(&holding, answer.refusal, &lent.bytes)?;
+pub fn correct(output: &mut Output, holding: &Holding, place: Place, count: u32) -> Outcome<()> {
+    let (owned, mut found) = holding.change()?;
+    let mut lent = Lent::new(std::mem::take(&mut found.ledger), 1);
+    let pixel = pixel_number(place, &found.held);
+    let answer = quayrudder::correct(&mut found.held, &mut lent.bytes, lent.lines, pixel, count);
+    accepted(holding, answer.refusal, &lent.bytes)?;
     let ledger = lent.used(answer.lines);
-    owned.commit(&Change { held: Some(&held), ledger })?;
-    say_appended(output, &holding, ledger)
+    owned.commit(found.state, &Change { held: Some(&found.held), ledger: Some(ledger), notes: found.notes() })?;
+    let Some(line) = ledger::backwards(&ledger::listing(ledger)).next() else { return Ok(()) };
+    let name = shown(&holding.name);
+    let text = format!("{name}: line {}: {}", line.number, line_text(&line));
+    output.say(&text, &json!({"name": name, "appended": line_value(&line)}))
 }
 
 /// The number of the pixel meant. A column past the last is no pixel, and neither is the largest number.
@@ -63,34 +68,56 @@ fn pixel_number(place: Place, held: &[u8]) -> u64 {
     }
 }
 
-pub fn keep(output: &mut Output, name: &Path, date: Date) -> Outcome<()> {
-    let holding = Holding::named(name)?;
-    let owned = holding.change()?;
-    let mut lent = Lent::new(owned.read_ledger()?, 1);
+pub fn keep(output: &mut Output, holding: &Holding, date: Date, shorten: bool) -> Outcome<()> {
+    let (owned, found) = holding.change()?;
+    let mut lent = Lent::new(found.ledger.clone(), 1);
     let answer = quayrudder::keep(&mut lent.bytes, lent.lines, date);
-    accepted(&holding, answer.refusal, &lent.bytes)?;
+    accepted(holding, answer.refusal, &lent.bytes)?;
+    let former = ledger::keep_date(&ledger::listing(&found.ledger));
+    if !shorten {
+        must_not_shorten(holding, date, former.as_deref())?;
+    }
     let ledger = lent.used(answer.lines);
-    owned.commit(&Change { held: None, ledger })?;
-    say_appended(output, &holding, ledger)
+    owned.commit(found.state, &Change { ledger: Some(ledger), notes: found.notes(), ..Change::default() })?;
+    let was = former.as_ref().map_or("no date before".into(), |former| format!("was {former}"));
+    let (name, line, date) = (shown(&holding.name), answer.lines, date_text(date));
+    let text = format!("{name}: line {line}: kept until {date} ({was})");
+    let appended = json!({"line": line, "kind": "keep", "date": date, "withdrawn": false});
+    output.say(&text, &json!({"name": name, "appended": appended, "former": former}))
 }
 
-pub fn withdraw(output: &mut Output, name: &Path) -> Outcome<()> {
-    let holding = Holding::named(name)?;
-    let owned = holding.change()?;
-    let mut held = owned.read_held()?;
-    let before = owned.read_ledger()?;
-    let mut lent = Lent::new(before.clone(), 1);
-    let answer = quayrudder::withdraw(&mut held, &mut lent.bytes, lent.lines);
-    accepted(&holding, answer.refusal, &lent.bytes)?;
-    owned.commit(&Change { held: Some(&held), ledger: lent.used(answer.lines) })?;
-    let Some(taken) = ledger::last_standing(&ledger::listing(&before)) else { return Ok(()) };
-    let name = shown(&holding.name);
-    let text = format!("{name}: line {} withdraws line {}: {}", answer.lines, taken.number, line_text(&taken));
-    output.say(&text, &json!({"name": name, "line": answer.lines, "withdraws": line_value(&taken)}))
+/// A slip in the date must not let a frame go early. Dates of this form are in the order of their texts.
+fn must_not_shorten(holding: &Holding, date: Date, former: Option<&str>) -> Outcome<()> {
+    let (date, today) = (date_text(date), date_text(clock::today()));
+    let than = match former {
+        Some(former) if date.as_str() < former => format!("{former}, until which it is kept"),
+        _ if date < today => format!("today, {today}"),
+        _ => return Ok(()),
+    };
+    let why = format!("{date} is before {than}. Nothing was changed. If that is meant, give --shorten");
+    Err(Failure::declined(&holding.name, why))
+}
+
+pub fn withdraw(output: &mut Output, holding: &Holding) -> Outcome<()> {
+    let (owned, mut found) = holding.change()?;
+    let mut lent = Lent::new(found.ledger.clone(), 1);
+    let answer = quayrudder::withdraw(&mut found.held, &mut lent.bytes, lent.lines);
+    accepted(holding, answer.refusal, &lent.bytes)?;
+    let ledger = lent.used(answer.lines);
+    owned.commit(found.state, &Change { held: Some(&found.held), ledger: Some(ledger), notes: found.notes() })?;
+    let Some(taken) = ledger::last_standing(&ledger::listing(&found.ledger)) else { return Ok(()) };
+    let (name, now) = (shown(&holding.name), ledger::keep_date(&ledger::listing(ledger)));
+    let mut text = format!("{name}: line {} withdraws line {}: {}", answer.lines, taken.number, line_text(&taken));
+    let mut value = json!({"name": name, "line": answer.lines, "withdraws": line_value(&taken)});
+    if let Entry::Keep { .. } = taken.entry {
+        text += &now.as_ref().map_or("; no keep date stands now".into(), |now| format!("; now kept until {now}"));
+        value["kept_until"] = json!(now);
+    }
+    output.say(&text, &value)
 }
 
 /// A refusal names the file that it is about.
-fn accepted(holding: &Holding, refusal: u32, ledger: &[u8]) -> Outcome<()> {
+pub fn accepted(holding: &Holding, refusal: u32, ledger: &[u8]) -> Outcome<()> {
     let (file, note) = match refusal {
         0 => return Ok(()),
         17 | 18 | 19 | 23 | 24 => (&holding.held, String::new()),
@@ -99,14 +126,6 @@ fn accepted(holding: &Holding, refusal: u32, ledger: &[u8]) -> Outcome<()> {
     };
     let (file, said) = (file.clone(), sentence(refusal));
     Err(Failure::Refused(Refused { file, number: refusal, place: 0, column: 0, note, said }))
-}
-
-/// Says the line that was appended.
-fn say_appended(output: &mut Output, holding: &Holding, ledger: &[u8]) -> Outcome<()> {
-    let Some(line) = ledger::backwards(&ledger::listing(ledger)).next() else { return Ok(()) };
-    let name = shown(&holding.name);
-    let text = format!("{name}: line {}: {}", line.number, line_text(&line));
-    output.say(&text, &json!({"name": name, "appended": line_value(&line)}))
 }
 
 fn line_text(line: &Line) -> String {
@@ -128,10 +147,9 @@ fn line_value(line: &Line) -> Value {
     }
 }
 
-pub fn list(output: &mut Output, name: &Path) -> Outcome<()> {
-    let holding = Holding::named(name)?;
-    let bytes = holding.ask()?.read_ledger()?;
-    accepted(&holding, ledger::refusal(&bytes), &bytes)?;
+pub fn list(output: &mut Output, holding: &Holding) -> Outcome<()> {
+    let bytes = holding.ask(Holding::read_ledger)?;
+    accepted(holding, ledger::refusal(&bytes), &bytes)?;
     let listing = ledger::listing(&bytes);
     let mut lines: Vec<Line> = ledger::backwards(&listing).collect();
     lines.reverse();
@@ -140,9 +158,8 @@ pub fn list(output: &mut Output, name: &Path) -> Outcome<()> {
     output.say(&listing, &json!({"name": shown(&holding.name), "lines": values, "standing": standing}))
 }
 
-pub fn may_purge(output: &mut Output, name: &Path, day: Date) -> Outcome<()> {
-    let holding = Holding::named(name)?;
-    let bytes = holding.ask()?.read_ledger()?;
+pub fn may_purge(output: &mut Output, holding: &Holding, day: Date) -> Outcome<()> {
+    let bytes = holding.ask(|holding| holding.must_have_held().and_then(|()| holding.read_ledger()))?;
     let name = shown(&holding.name);
     let (text, value) = match quayrudder::may_purge(&bytes, ledger::lines(&bytes), day) {
         0 => (format!("yes: {name} may be purged"), json!({"name": name, "may_purge": true})),
@@ -155,56 +172,10 @@ pub fn may_purge(output: &mut Output, name: &Path, day: Date) -> Outcome<()> {
             let value = json!({"name": name, "may_purge": false, "refusal": 27, "kept_until": until});
             (format!("not yet: {name} is kept until {until}"), value)
         }
-        other => return accepted(&holding, other, &bytes),
+        other => return accepted(holding, other, &bytes),
     };
     if value["may_purge"] == false {
         output.status(NO);
     }
     output.say(&text, &value)
-}
-
-pub fn verify(output: &mut Output, names: &[PathBuf]) -> Outcome<()> {
-    for name in names {
-        match Holding::named(name).and_then(|holding| verified(&holding)) {
-            Ok((text, value)) => output.say(&text, &value)?,
-            Err(failure) => output.failed(&failure)?,
-        }
-    }
-    Ok(())
-}
-
-fn verified(holding: &Holding) -> Outcome<(String, Value)> {
-    let asked = holding.ask()?;
-    stands(holding, &asked)?;
-    let mut held = asked.read_held()?;
-    let bytes = asked.read_ledger()?;
-    let lines = ledger::lines(&bytes);
-    let mut lent = Lent::new(bytes, lines);
-    let refusal = withdraw_all(&mut held, &mut lent);
-    if refusal != 22 {
-        accepted(holding, refusal, &lent.bytes)?;
-    }
-    let (name, standing) = (shown(&holding.name), lent.lines - lines);
-    let text = format!("{name}: held frame and ledger agree, {lines} lines, {standing} standing");
-    Ok((text, json!({"name": name, "agree": true, "lines": lines, "standing": standing})))
-}
-
-/// Is the held file a frame as the writer makes it? A correction of no pixel changes nothing: 24, or else 19.
-fn stands(holding: &Holding, asked: &Asked) -> Outcome<()> {
-    let mut held = asked.read_held()?;
-    match quayrudder::correct(&mut held, &mut [], 0, u64::MAX, 0).refusal {
-        24 => Ok(()),
-        number => accepted(holding, number, &[]),
-    }
-}
-
-/// Takes back every line that stands, in copies of both files: 22 where held frame and ledger agree.
-fn withdraw_all(held: &mut [u8], lent: &mut Lent) -> u32 {
-    loop {
-        let answer = quayrudder::withdraw(held, &mut lent.bytes, lent.lines);
-        if answer.refusal != 0 {
-            return answer.refusal;
-        }
-        lent.lines = answer.lines;
-    }
 }

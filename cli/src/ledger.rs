@@ -79,12 +79,17 @@ pub fn last_standing(listing: &str) -> Option<Line> {
     backwards(listing).find(|line| !line.withdrawn && line.entry != Entry::Withdraw)
 }
 
-/// The date of the last keep line that stands.
-pub fn keep_date(listing: &str) -> Option<String> {
+/// The last keep line that stands: its number and its date.
+pub fn keep_line(listing: &str) -> Option<(u64, String)> {
     backwards(listing).filter(|line| !line.withdrawn).find_map(|line| match line.entry {
-        Entry::Keep { date } => Some(date),
+        Entry::Keep { date } => Some((line.number, date)),
         _ => None,
     })
+}
+
+/// The date of the last keep line that stands.
+pub fn keep_date(listing: &str) -> Option<String> {
+    keep_line(listing).map(|(_, date)| date)
 }
 
 fn parse(text: &str) -> Option<Line> {

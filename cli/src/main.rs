@@ -2,6 +2,8 @@
 #![forbid(unsafe_code)]
 
 mod args;
+mod clock;
+mod digest;
 mod dtrek;
 mod failure;
 mod files;
@@ -13,42 +15,71 @@ mod locks;
 mod mar;
 mod output;
 mod pixels;
+mod purge_log;
 mod redo;
 mod refusals;
+mod removal;
+mod sums;
 mod sweep;
+mod verify;
+mod walk;
 
 use args::{Cli, Command};
 use clap::Parser;
-use failure::{Outcome, MACHINE};
+use failure::{Failure, Outcome, MACHINE};
+use holding::Holding;
 use output::Output;
 use std::process::ExitCode;
+use std::time::Duration;
+
+/// How long a sweep waits for one holding.
+const SWEEP_WAIT: u32 = 10;
 
 fn main() -> ExitCode {
-    let cli = Cli::parse();
-    let mut output = Output::new(cli.json);
-    let said = match run(&mut output, cli.command) {
-        Ok(()) => Ok(()),
-        Err(failure) => output.failed(&failure),
+    clock::forget_the_callers_zone();
+    let (mut output, done) = match Cli::try_parse() {
+        Ok(cli) => {
+            let mut output = Output::new(cli.json);
+            let done = run(&mut output, cli.command, cli.wait);
+            (output, done)
+        }
+        Err(error) => (Output::new(true), Err(misused(&error))),
     };
+    let said = done.or_else(|failure| output.failed(&failure));
     if said.is_err() {
         output.status(MACHINE);
     }
     ExitCode::from(output.worst())
 }
 
-fn run(output: &mut Output, command: Command) -> Outcome<()> {
+/// With --json, bad usage is said as any other failure. Else the parser says it, as it says help and version.
+fn misused(error: &clap::Error) -> Failure {
+    if !error.use_stderr() || !std::env::args_os().any(|word| word == "--json") {
+        error.exit();
+    }
+    let text = error.to_string();
+    Failure::Usage(text.trim_start_matches("error: ").trim_end().to_string())
+}
+
+fn run(output: &mut Output, command: Command, seconds: Option<u32>) -> Outcome<()> {
+    let wait = seconds.map(|number| Duration::from_secs(number.into()));
     match command {
         Command::Info { frames } => frames::info(output, &frames),
         Command::Expand(asked) => frames::expand(output, &asked),
         Command::View(asked) => frames::view(output, &asked),
         Command::Write(asked) => frames::write(output, &asked),
-        Command::Open(asked) => holdings::open(output, &asked),
-        Command::Correct { name, pixel, count } => holdings::correct(output, &name, pixel, count),
-        Command::Keep { name, date } => holdings::keep(output, &name, date),
-        Command::Withdraw { name } => holdings::withdraw(output, &name),
-        Command::List { name } => holdings::list(output, &name),
-        Command::MayPurge { name, day } => holdings::may_purge(output, &name, day),
-        Command::Verify { names } => holdings::verify(output, &names),
-        Command::Sweep(asked) => sweep::sweep(output, &asked),
+        Command::Open(asked) => holdings::open(output, &asked, wait),
+        Command::Correct { name, pixel, count } => {
+            holdings::correct(output, &Holding::named(&name, wait)?, pixel, count)
+        }
+        Command::Keep { name, date, shorten } => holdings::keep(output, &Holding::named(&name, wait)?, date, shorten),
+        Command::Withdraw { name } => holdings::withdraw(output, &Holding::named(&name, wait)?),
+        Command::List { name } => holdings::list(output, &Holding::named(&name, wait)?),
+        Command::MayPurge { name, day } => holdings::may_purge(output, &Holding::named(&name, wait)?, day),
+        Command::Verify(asked) => verify::verify(output, &asked, wait),
+        Command::Sweep(asked) => {
+            let seconds = seconds.unwrap_or(SWEEP_WAIT);
+            sweep::sweep(output, &asked, Duration::from_secs(seconds.into()))
+        }
     }
 }

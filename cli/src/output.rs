@@ -1,5 +1,6 @@
 //! Where answers go: a text or one JSON object a line on standard output, failures in sentences on standard error.
 use crate::failure::{Failure, Outcome, DONE};
+use indicatif::{ProgressBar, ProgressStyle};
 use serde_json::Value;
 use std::io::{self, ErrorKind, Write};
 use std::path::Path;
@@ -50,4 +51,10 @@ fn unread(error: io::Error) -> Failure {
         _ => Failure::machine(Path::new("standard output"), "write")(error)
             .so("Only the answer is lost: a change that was asked for is made."),
     }
+}
+
+/// A bar for long work, where somebody sees it.
+pub fn progress(length: u64, things: &str) -> ProgressBar {
+    let style = ProgressStyle::with_template(&format!("{{bar:40}} {{pos}}/{{len}} {things}, {{eta}} left"));
+    ProgressBar::new(length).with_style(style.unwrap_or_else(|_| ProgressStyle::default_bar()))
 }

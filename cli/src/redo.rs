@@ -1,89 +1,147 @@
-//! The record of a change that touches two files: both become what it says, or neither.
+//! The record of a change that touches several files: all of them become what it says, or none.
 //!
-//! The record is written and synced under another name and then renamed into place. From then on the change is made:
-//! whoever finds the record puts both files in place and removes it. Doing that again changes nothing.
+//! It names the state of held file and ledger that it follows and the one that it makes. It is written and synced under
+//! another name and then renamed into place. From then on the change is made: whoever finds the record with the files in
+//! one of its two states puts them in place and removes it. Doing that again changes nothing.
+use crate::digest::{from_hex, Digest, State};
 use crate::failure::{Failure, Outcome};
-use crate::files;
-use crc32fast::Hasher;
-use std::io::{Error, ErrorKind};
-use std::path::Path;
+use std::ffi::OsStr;
+use std::os::unix::ffi::OsStrExt;
+use std::path::{Path, PathBuf};
 
-const MARK: &[u8; 18] = b"quayrudder redo 1\n";
-const LENGTHS: usize = MARK.len() + 16;
-const SUM: usize = 4;
-/// The length that says: this file stays as it is.
-const STAYS: u64 = u64::MAX;
+const MARK: &str = "quayrudder redo 2";
+/// What every version's record starts with.
+pub const START: &[u8] = b"quayrudder redo ";
+const PARTS: usize = 4;
 
-/// The new contents. The held file stays as it is where there are none for it.
-pub struct Change<'a> {
+#[derive(Clone, Debug, PartialEq, Eq)]
+pub struct Record<'a> {
+    pub follows: State,
+    pub makes: State,
+    /// The new contents of each file, where it gets any.
     pub held: Option<&'a [u8]>,
-    pub ledger: &'a [u8],
+    pub ledger: Option<&'a [u8]>,
+    pub sums: Option<&'a [u8]>,
+    /// The holding's name in the folder that it is moved into.
+    pub into: Option<PathBuf>,
 }
 
-/// Puts the record in place. Where this fails before the record has its name, nothing has changed.
-pub fn record(path: &Path, change: &Change) -> Outcome<()> {
-    let held = change.held.unwrap_or_default();
-    let lengths = [change.held.map_or(STAYS, |held| held.len() as u64), change.ledger.len() as u64];
-    let lengths = lengths.map(u64::to_le_bytes).concat();
-    let parts = [MARK.as_slice(), &lengths, held, change.ledger];
-    let sum = sum(&parts).to_le_bytes();
-    files::replace(path, &[parts[0], parts[1], parts[2], parts[3], &sum])
+impl<'a> Record<'a> {
+    /// The record of a holding that is deleted, or moved.
+    pub fn of_removal(follows: State, into: Option<PathBuf>) -> Record<'a> {
+        Record { follows, makes: State::default(), held: None, ledger: None, sums: None, into }
+    }
+
+    pub fn is_removal(&self) -> bool {
+        self.makes == State::default()
+    }
+
+    /// The record's bytes, part by part.
+    pub fn write(&self, out: impl FnOnce(&[&[u8]]) -> Outcome<()>) -> Outcome<()> {
+        let into = self.into.as_ref().map(|path| path.as_os_str().as_bytes());
+        let parts = [self.held, self.ledger, self.sums, into];
+        let lengths = parts.map(|part| part.map_or("-".into(), |bytes| bytes.len().to_string())).join(" ");
+        let pair = |first: &Option<Digest>, second: &Option<Digest>| format!("{} {}", text(first), text(second));
+        let held = pair(&self.follows.held, &self.makes.held);
+        let ledger = pair(&self.follows.ledger, &self.makes.ledger);
+        let head = format!("{MARK}\nheld {held}\nledger {ledger}\nparts {lengths}\n\n");
+        let [first, second, third, fourth] = parts.map(Option::unwrap_or_default);
+        let body = [head.as_bytes(), first, second, third, fourth];
+        out(&[body[0], body[1], body[2], body[3], body[4], &Digest::of_parts(&body).sha256])
+    }
 }
 
 /// Reads a record, or says why it cannot be used.
-pub fn read<'a>(path: &Path, bytes: &'a [u8]) -> Outcome<Change<'a>> {
+pub fn read<'a>(path: &Path, bytes: &'a [u8]) -> Outcome<Record<'a>> {
+    let advice =
+        "Nothing was changed or deleted. Move this file to a safe place, restore the held file, the ledger and the \
+                  sums from their copies, and check them with `quayrudder verify`";
     parse(bytes).ok_or_else(|| {
-        let error = Error::new(ErrorKind::InvalidData, "the record of an unfinished change is damaged");
-        Failure::machine(path, "use")(error)
-            .so("Nothing was changed or deleted. Move this file to a safe place, restore the held file and the ledger \
-             from their copies, and check them with `quayrudder verify`.")
+        let why = match bytes.starts_with(b"quayrudder redo 1\n") {
+            true => "is the record of an earlier version of this command, which does not say what state it follows",
+            false => "is the record of an unfinished change, and damaged",
+        };
+        Failure::damaged(path, format!("{why}. {advice}"))
     })
 }
 
-fn parse(bytes: &[u8]) -> Option<Change<'_>> {
-    let (body, stated) = bytes.split_at_checked(bytes.len().checked_sub(SUM)?)?;
-    if !body.starts_with(MARK) || sum(&[body]).to_le_bytes() != stated {
+pub fn parse(bytes: &[u8]) -> Option<Record<'_>> {
+    let (body, sum) = bytes.split_at_checked(bytes.len().checked_sub(32)?)?;
+    if Digest::of(body).sha256 != *sum {
         return None;
     }
-    let (lengths, contents) = body.split_at_checked(LENGTHS)?;
-    let number = |at: usize| lengths.get(at..at + 8).and_then(|b| b.try_into().ok()).map(u64::from_le_bytes);
-    let (held, ledger) = (number(MARK.len())?, number(MARK.len() + 8)?);
-    let cut = if held == STAYS { 0 } else { usize::try_from(held).ok()? };
-    let (first, second) = contents.split_at_checked(cut)?;
-    (second.len() as u64 == ledger).then_some(Change { held: (held != STAYS).then_some(first), ledger: second })
+    let end = body.windows(2).position(|pair| pair == b"\n\n")?;
+    let head: Vec<&str> = std::str::from_utf8(&body[..end]).ok()?.split('\n').collect();
+    let [MARK, held, ledger, parts] = head[..] else { return None };
+    let (held, ledger) = (digests(held.strip_prefix("held ")?)?, digests(ledger.strip_prefix("ledger ")?)?);
+    let [new_held, new_ledger, sums, into] = cut(&body[end + 2..], parts.strip_prefix("parts ")?)?;
+    let (follows, makes) = (State { held: held.0, ledger: ledger.0 }, State { held: held.1, ledger: ledger.1 });
+    let into = into.map(|bytes| PathBuf::from(OsStr::from_bytes(bytes)));
+    Some(Record { follows, makes, held: new_held, ledger: new_ledger, sums, into })
 }
 
-fn sum(parts: &[&[u8]]) -> u32 {
-    let mut hasher = Hasher::new();
-    for part in parts {
-        hasher.update(part);
+/// A digest is its length, a colon and its sum; a dash stands for a file that is missing.
+fn text(digest: &Option<Digest>) -> String {
+    digest.map_or("-".into(), |digest| format!("{}:{}", digest.length, digest.hex()))
+}
+
+fn digests(words: &str) -> Option<(Option<Digest>, Option<Digest>)> {
+    let (first, second) = words.split_once(' ')?;
+    Some((digest(first)?, digest(second)?))
+}
+
+fn digest(word: &str) -> Option<Option<Digest>> {
+    match word.split_once(':') {
+        None => (word == "-").then_some(None),
+        Some((length, sum)) => Some(Some(Digest { length: length.parse().ok()?, sha256: from_hex(sum.as_bytes())? })),
     }
-    hasher.finalize()
+}
+
+/// The parts of these lengths, which must be all that there is.
+fn cut<'a>(mut bytes: &'a [u8], lengths: &str) -> Option<[Option<&'a [u8]>; PARTS]> {
+    let (mut parts, mut words) = ([None; PARTS], lengths.split(' '));
+    for part in &mut parts {
+        let word = words.next()?;
+        if word != "-" {
+            let (first, rest) = bytes.split_at_checked(word.parse().ok()?)?;
+            (*part, bytes) = (Some(first), rest);
+        }
+    }
+    (bytes.is_empty() && words.next().is_none()).then_some(parts)
 }
 
 #[cfg(test)]
 mod tests {
     use super::*;
 
-    fn written(change: &Change) -> Vec<u8> {
-        let folder = tempfile::tempdir().unwrap();
-        let path = folder.path().join("a.redo");
-        record(&path, change).unwrap();
-        std::fs::read(path).unwrap()
+    fn record<'a>(held: Option<&'a [u8]>) -> Record<'a> {
+        let digest = |bytes: &[u8]| Some(Digest::of(bytes));
+        let follows = State { held: None, ledger: digest(b"old") };
+        let makes = State { held: digest(b"frame"), ledger: digest(b"new") };
+        Record { follows, makes, held, ledger: Some(b"new"), sums: Some(b"\n\n"), into: None }
+    }
+
+    fn written(record: &Record) -> Vec<u8> {
+        let mut bytes = Vec::new();
+        let collect = |parts: &[&[u8]]| {
+            bytes.extend(parts.concat());
+            Ok(())
+        };
+        record.write(collect).unwrap();
+        bytes
     }
 
     #[test]
     fn a_record_says_what_was_recorded() {
-        for held in [None, Some(b"frame".as_slice()), Some(b"".as_slice())] {
-            let bytes = written(&Change { held, ledger: b"sixteen bytes..." });
-            let found = parse(&bytes).unwrap();
-            assert_eq!((found.held, found.ledger), (held, b"sixteen bytes...".as_slice()));
+        let moved = Record::of_removal(record(None).makes, Some("bin/\n\n\u{e9}".into()));
+        for record in [record(None), record(Some(b"frame")), record(Some(b"")), moved] {
+            assert_eq!(parse(&written(&record)), Some(record));
         }
     }
 
     #[test]
     fn a_record_with_any_byte_changed_or_cut_off_is_damaged() {
-        let bytes = written(&Change { held: Some(b"frame"), ledger: b"ledger" });
+        let bytes = written(&record(Some(b"frame")));
         for place in 0..bytes.len() {
             let mut changed = bytes.clone();
             changed[place] ^= 1;

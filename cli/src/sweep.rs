@@ -1,34 +1,37 @@
-//! The purge job: every ledger below a folder is asked, and holdings are deleted only where that is asked for.
+//! The purge job: every ledger below a folder is asked, and holdings go only where that is asked for.
 use crate::args::Sweep;
-use crate::failure::{shown, Failure, Outcome, MACHINE, NO};
+use crate::clock::{self, date_text};
+use crate::failure::{shown, Failure, Outcome, DAMAGED, DONE, MACHINE};
 use crate::files;
-use crate::holding::{Asked, Holding};
+use crate::holding::{Holding, Owned};
 use crate::ledger;
-use crate::output::Output;
+use crate::locks;
+use crate::output::{progress, Output};
+use crate::purge_log::Log;
 use crate::refusals::sentence;
-use chrono::{DateTime, SecondsFormat, Utc};
-use indicatif::{ProgressBar, ProgressStyle};
+use crate::removal::Interrupted;
+use crate::walk::{self, Kind, Lies};
 use quayrudder::Date;
 use rayon::prelude::*;
 use serde_json::{json, Value};
-use std::fs::{File, OpenOptions};
-use std::io::Write;
+use std::fs;
 use std::path::{Path, PathBuf};
-use std::time::SystemTime;
-use walkdir::WalkDir;
+use std::time::Duration;
 
 /// So many ledgers are asked at once, and then said in order.
 const BATCH: usize = 1024;
 
-/// What a ledger answers.
+/// What a ledger answers, or what became of its holding.
 #[derive(Clone, Debug, PartialEq, Eq)]
 enum Answer {
     Yes,
     Deleted,
+    Moved { to: PathBuf },
     NotYet { until: String },
     NoKeepLine,
     Refused { number: u32 },
-    Failed { why: String },
+    Failed { why: String, status: u8 },
+    NotAHolding,
 }
 
 #[derive(Default)]
@@ -36,171 +39,234 @@ struct Totals {
     ledgers: u64,
     yes: u64,
     deleted: u64,
+    moved: u64,
     not_yet: u64,
     no_keep_line: u64,
     refused: u64,
     failed: u64,
+    not_a_holding: u64,
 }
 
-pub fn sweep(output: &mut Output, asked: &Sweep) -> Outcome<()> {
-    must_be_a_day(asked.day)?;
-    let (names, unread) = find(&asked.folder)?;
-    let mut log = if asked.delete { Some(Log::open(asked)?) } else { None };
-    let mut totals = Totals { failed: unread.len() as u64, ..Totals::default() };
-    unread.iter().try_for_each(|failure| output.failed(failure))?;
-    let bar = progress(names.len() as u64);
+/// What is to be done with a holding that may go.
+struct Job<'a> {
+    folder: &'a Path,
+    day: Date,
+    removes: bool,
+    /// Moved into this folder, where one is named; else deleted.
+    into: Option<&'a Path>,
+    wait: Duration,
+}
+
+pub fn sweep(output: &mut Output, asked: &Sweep, wait: Duration) -> Outcome<()> {
+    let day = asked.day.unwrap_or_else(clock::today);
+    let removes = asked.delete || asked.into.is_some();
+    let job = Job { folder: &asked.folder, day, removes, into: asked.into.as_deref(), wait };
+    job.must_be_a_day()?;
+    let found = walk::find(&asked.folder, job.left_out()?.as_deref())?;
+    let mut log = if removes { Some(job.log(asked.log.as_deref())?) } else { None };
+    let mut totals = Totals { failed: found.unread.len() as u64, ..Totals::default() };
+    found.unread.iter().try_for_each(|failure| output.failed(failure))?;
+    let names: Vec<(PathBuf, Lies)> = found.names.into_iter().collect();
+    let bar = progress(names.len() as u64, "ledgers");
     for batch in names.chunks(BATCH) {
-        let answers: Vec<Answer> = batch.par_iter().map(|name| ask(name, asked.day)).collect();
-        bar.suspend(|| say_batch(output, batch, answers, &mut log, asked.day, &mut totals))?;
-        bar.inc(batch.len() as u64);
+        let answers: Vec<Option<Answer>> =
+            batch.par_iter().map(|(name, lies)| job.ask(name, lies)).inspect(|_| bar.inc(1)).collect();
+        bar.suspend(|| job.say_batch(output, batch, answers, &mut log, &mut totals))?;
     }
     bar.finish_and_clear();
-    output.status(totals.status());
     output.say(&totals.text(), &json!({"totals": totals.value()}))
 }
 
-/// The library judges the day before anything is walked: a ledger of no lines answers 26 for a calendar date.
-fn must_be_a_day(day: Date) -> Outcome<()> {
-    match quayrudder::may_purge(&[], 0, day) {
-        26 => Ok(()),
-        number => Err(Failure::refused(Path::new("--day"), number)),
-    }
-}
-
-/// The holdings below a folder in path order, and what could not be walked. An unfinished holding may have no ledger yet.
-fn find(folder: &Path) -> Outcome<(Vec<PathBuf>, Vec<Failure>)> {
-    std::fs::read_dir(folder).map_err(Failure::machine(folder, "read"))?;
-    let (mut names, mut unread) = (Vec::new(), Vec::new());
-    for entry in WalkDir::new(folder) {
-        match entry {
-            Ok(entry) if !entry.file_type().is_dir() => names.extend(holding_name(entry.path())),
-            Ok(_) => {}
-            Err(error) => unread.push(walk_failure(folder, error)),
+impl Job<'_> {
+    /// The library judges the day before anything is walked: a ledger of no lines answers 26 for a calendar date.
+    fn must_be_a_day(&self) -> Outcome<()> {
+        let today = clock::today();
+        match quayrudder::may_purge(&[], 0, self.day) {
+            26 if self.removes && clock::is_before(today, self.day) => {
+                let (day, today) = (date_text(self.day), date_text(today));
+                let why = format!("{day} is after today, {today}. Nothing goes for a day that has not come");
+                Err(Failure::declined(Path::new("--day"), why))
+            }
+            26 => Ok(()),
+            number => Err(Failure::refused(Path::new("--day"), number)),
         }
     }
-    names.sort_unstable();
-    names.dedup();
-    Ok((names, unread))
-}
 
-fn holding_name(path: &Path) -> Option<PathBuf> {
-    let ending = path.extension()?;
-    (ending == "ledger" || ending == "redo").then(|| path.with_extension(""))
-}
+    /// The folder that is moved into may lie below the one that is swept.
+    fn left_out(&self) -> Outcome<Option<PathBuf>> {
+        let Some(into) = self.into else { return Ok(None) };
+        let (Ok(into), Ok(folder)) = (fs::canonicalize(into), fs::canonicalize(self.folder)) else { return Ok(None) };
+        match into.strip_prefix(&folder) {
+            Ok(rest) if rest == Path::new("") => Err(Failure::Usage("--into must name another folder than DIR".into())),
+            Ok(rest) => Ok(Some(self.folder.join(rest))),
+            Err(_) => Ok(None),
+        }
+    }
 
-fn walk_failure(folder: &Path, error: walkdir::Error) -> Failure {
-    let path = error.path().unwrap_or(folder).to_path_buf();
-    Failure::machine(&path, "walk")(error.into())
-}
+    fn log(&self, named: Option<&Path>) -> Outcome<Log> {
+        let usual = || self.folder.join("quayrudder-purge.log");
+        Log::open(named.map_or_else(usual, Path::to_path_buf), &date_text(self.day))
+    }
 
-fn progress(length: u64) -> ProgressBar {
-    let style = ProgressStyle::with_template("{bar:40} {pos}/{len} ledgers, {eta} left");
-    ProgressBar::new(length).with_style(style.unwrap_or_else(|_| ProgressStyle::default_bar()))
-}
+    /// The holding of a ledger that was found. Its name ends in none of a holding's endings, or they are part of it.
+    fn holding(&self, name: &Path) -> Holding {
+        Holding::exactly(name, Some(self.wait))
+    }
 
-/// The holding of a ledger that was found. Its name ends in none of a holding's endings, or they are part of it.
-fn ask(name: &Path, day: Date) -> Answer {
-    let holding = Holding::exactly(name);
-    holding
-        .ask()
-        .and_then(|asked| answer(&asked, day))
-        .unwrap_or_else(|failure| Answer::Failed { why: failure.to_string() })
-}
+    /// None where there is nothing to be said.
+    fn ask(&self, name: &Path, lies: &Lies) -> Option<Answer> {
+        match lies.kind(name) {
+            Kind::Stranger => Some(Answer::NotAHolding),
+            Kind::Nothing => None,
+            Kind::Rest => {
+                if self.removes {
+                    let _ = self.clear(name, lies);
+                }
+                None
+            }
+            // What a record says is settled where the holding goes.
+            Kind::Holding if self.removes && lies.redo => Some(Answer::Yes),
+            Kind::Holding => {
+                let asked =
+                    self.holding(name).ask(|holding| holding.must_have_held().and_then(|()| holding.read_ledger()));
+                Some(asked.map_or_else(|failure| Answer::failed(&failure), |ledger| self.answer(&ledger)))
+            }
+        }
+    }
 
-fn answer(asked: &Asked, day: Date) -> Outcome<Answer> {
-    let bytes = asked.read_ledger()?;
-    Ok(match quayrudder::may_purge(&bytes, ledger::lines(&bytes), day) {
-        0 => Answer::Yes,
-        26 => Answer::NoKeepLine,
-        27 => Answer::NotYet { until: ledger::keep_date(&ledger::listing(&bytes)).unwrap_or_default() },
-        number => Answer::Refused { number },
-    })
-}
+    fn answer(&self, bytes: &[u8]) -> Answer {
+        match quayrudder::may_purge(bytes, ledger::lines(bytes), self.day) {
+            0 => Answer::Yes,
+            26 => Answer::NoKeepLine,
+            27 => Answer::NotYet { until: ledger::keep_date(&ledger::listing(bytes)).unwrap_or_default() },
+            number => Answer::Refused { number },
+        }
+    }
 
-/// Deletes what may be deleted, in path order, and says each answer.
-fn say_batch(
-    output: &mut Output,
-    names: &[PathBuf],
-    answers: Vec<Answer>,
-    log: &mut Option<Log>,
-    day: Date,
-    totals: &mut Totals,
-) -> Outcome<()> {
-    for (name, found) in names.iter().zip(answers) {
-        let last = match (found, log.as_mut()) {
-            (Answer::Yes, Some(log)) => delete(name, day, log)?,
-            (found, _) => found,
+    /// Removes what a killed process left where no holding came to be, or where one has gone.
+    fn clear(&self, name: &Path, lies: &Lies) -> Outcome<()> {
+        let holding = self.holding(name);
+        let is_ours = fs::read(&holding.lock).is_ok_and(|mark| mark.starts_with(locks::MARK.as_bytes()));
+        if is_ours || !lies.leftovers.is_empty() {
+            let owned = holding.lock_alone()?;
+            if holding.must_exist().is_err() {
+                lies.leftovers.iter().try_for_each(|path| files::remove(path))?;
+            }
+            owned.leave_no_lock();
+        }
+        Ok(())
+    }
+
+    /// Takes away what may go, in path order, and says each answer.
+    fn say_batch(
+        &self,
+        output: &mut Output,
+        names: &[(PathBuf, Lies)],
+        answers: Vec<Option<Answer>>,
+        log: &mut Option<Log>,
+        totals: &mut Totals,
+    ) -> Outcome<()> {
+        for ((name, lies), found) in names.iter().zip(answers) {
+            let last = match (found, log.as_mut()) {
+                (None, _) => continue,
+                (Some(Answer::Yes), Some(log)) => self.remove(name, lies, log)?,
+                (Some(found), _) => found,
+            };
+            totals.add(&last);
+            output.status(last.status());
+            let said = output.say(&last.text(name), &last.value(name));
+            said.map_err(|failure| failure.so(format!("The sweep ended at {}.", shown(name))))?;
+        }
+        Ok(())
+    }
+
+    /// With nobody else at the holding. A log that cannot be written ends the sweep.
+    fn remove(&self, name: &Path, lies: &Lies, log: &mut Log) -> Outcome<Answer> {
+        let holding = self.holding(name);
+        match holding.own_to_remove() {
+            Ok((owned, Some(removal))) => self.finish(&owned, &removal, log),
+            Ok((owned, None)) => self.begin(&owned, lies, log),
+            Err(failure) => Ok(Answer::failed(&failure)),
+        }
+    }
+
+    /// Asks again, and only then takes the holding away.
+    fn begin(&self, owned: &Owned, lies: &Lies, log: &mut Log) -> Outcome<Answer> {
+        let name = &owned.holding.name;
+        let cleared = lies.leftovers.iter().try_for_each(|path| files::remove(path));
+        let contents = match cleared.and_then(|()| owned.holding.read_plain()) {
+            Ok(contents) => contents,
+            Err(failure) => return Ok(Answer::failed(&failure)),
         };
-        totals.add(&last);
-        let said = output.say(&last.text(name), &last.value(name));
-        said.map_err(|failure| failure.so(format!("The sweep ended at {}.", shown(name))))?;
-    }
-    Ok(())
-}
-
-/// Asks again with nobody else at the holding, and deletes it only then. A log that cannot be written ends the sweep.
-fn delete(name: &Path, day: Date, log: &mut Log) -> Outcome<Answer> {
-    let holding = Holding::exactly(name);
-    let asked = holding.change().and_then(|owned| answer(&owned, day).map(|again| (owned, again)));
-    let owned = match asked {
-        Ok((owned, Answer::Yes)) => owned,
-        Ok((_, other)) => return Ok(other),
-        Err(failure) => return Ok(Answer::Failed { why: failure.to_string() }),
-    };
-    log.write("deleting", name)?;
-    match owned.delete() {
-        Ok(()) => log.write("deleted", name).map(|()| Answer::Deleted),
-        Err(failure) => {
-            log.write("not deleted", name)?;
-            Ok(Answer::Failed { why: failure.to_string() })
+        let again = self.answer(&contents.ledger);
+        if again != Answer::Yes {
+            return Ok(again);
         }
-    }
-}
-
-/// What was deleted: a line before and a line after, each on the disk before anything else happens.
-struct Log {
-    path: PathBuf,
-    file: File,
-    day: Date,
-}
-
-impl Log {
-    fn open(asked: &Sweep) -> Outcome<Log> {
-        let path = asked.log.clone().unwrap_or_else(|| asked.folder.join("quayrudder-purge.log"));
-        let file = OpenOptions::new().append(true).create(true).open(&path).map_err(Failure::machine(&path, "open"))?;
-        files::sync_folder_of(&path)?;
-        Ok(Log { path, file, day: asked.day })
+        let into = self.into.map(|into| into.join(name.strip_prefix(self.folder).unwrap_or(name)));
+        let what = into.as_ref().map_or("deleting".into(), |to| format!("moving to {}", shown(to)));
+        log.before(&what, name, &contents.ledger, &contents.state)?;
+        let removed = owned.remove(contents.state, into.as_deref());
+        self.log_removal(owned, removed, into, log)
     }
 
-    fn write(&mut self, what: &str, name: &Path) -> Outcome<()> {
-        let now = DateTime::<Utc>::from(SystemTime::now()).to_rfc3339_opts(SecondsFormat::Secs, true);
-        let Date { year, month, day } = self.day;
-        let line = format!("{now} day {year:04}-{month:02}-{day:02} {what} {}\n", shown(name));
-        let written = self.file.write_all(line.as_bytes()).and_then(|()| self.file.sync_all());
-        written.map_err(|error| {
-            Failure::machine(&self.path, "write")(error).so(format!("The sweep ended at {}.", shown(name)))
-        })
+    fn finish(&self, owned: &Owned, removal: &Interrupted, log: &mut Log) -> Outcome<Answer> {
+        log.after("finishing what was cut short", &owned.holding.name)?;
+        let removed = owned.remove_the_rest(removal);
+        self.log_removal(owned, removed, removal.into.clone(), log)
+    }
+
+    fn log_removal(
+        &self,
+        owned: &Owned,
+        removed: Outcome<()>,
+        into: Option<PathBuf>,
+        log: &mut Log,
+    ) -> Outcome<Answer> {
+        let name = &owned.holding.name;
+        let done = if into.is_some() { "moved" } else { "deleted" };
+        match removed {
+            Ok(()) => log.after(done, name).map(|()| into.map_or(Answer::Deleted, |to| Answer::Moved { to })),
+            Err(failure) => {
+                log.after(&owned.remains(done), name)?;
+                Ok(Answer::failed(&failure))
+            }
+        }
     }
 }
 
 impl Answer {
+    fn failed(failure: &Failure) -> Answer {
+        Answer::Failed { why: failure.reason(), status: failure.status().max(MACHINE) }
+    }
+
+    fn status(&self) -> u8 {
+        match self {
+            Answer::Refused { .. } => DAMAGED,
+            Answer::Failed { status, .. } => *status,
+            _ => DONE,
+        }
+    }
+
     fn word(&self) -> &'static str {
         match self {
             Answer::Yes => "yes",
             Answer::Deleted => "deleted",
+            Answer::Moved { .. } => "moved",
             Answer::NotYet { .. } => "not yet",
             Answer::NoKeepLine => "no keep line",
             Answer::Refused { .. } => "refused",
             Answer::Failed { .. } => "failed",
+            Answer::NotAHolding => "not a holding",
         }
     }
 
     fn text(&self, name: &Path) -> String {
         let start = format!("{:<13} {}", self.word(), shown(name));
         match self {
+            Answer::Moved { to } => format!("{start}  to {}", shown(to)),
             Answer::NotYet { until } => format!("{start}  kept until {until}"),
             Answer::Refused { number } => format!("{start}  refusal {number}: {}", sentence(*number).meaning),
-            Answer::Failed { why } => format!("{start}  {why}"),
+            Answer::Failed { why, .. } => format!("{start}  {why}"),
             _ => start,
         }
     }
@@ -208,9 +274,10 @@ impl Answer {
     fn value(&self, name: &Path) -> Value {
         let mut value = json!({"name": shown(name), "answer": self.word()});
         match self {
+            Answer::Moved { to } => value["to"] = json!(shown(to)),
             Answer::NotYet { until } => value["kept_until"] = json!(until),
             Answer::Refused { number } => value["refusal"] = json!(number),
-            Answer::Failed { why } => value["failed"] = json!(why),
+            Answer::Failed { why, .. } => value["failed"] = json!(why),
             _ => {}
         }
         value
@@ -223,32 +290,39 @@ impl Totals {
         *match answer {
             Answer::Yes => &mut self.yes,
             Answer::Deleted => &mut self.deleted,
+            Answer::Moved { .. } => &mut self.moved,
             Answer::NotYet { .. } => &mut self.not_yet,
             Answer::NoKeepLine => &mut self.no_keep_line,
             Answer::Refused { .. } => &mut self.refused,
             Answer::Failed { .. } => &mut self.failed,
+            Answer::NotAHolding => &mut self.not_a_holding,
         } += 1;
     }
 
-    fn status(&self) -> u8 {
-        match (self.failed, self.refused) {
-            (0, 0) => 0,
-            (0, _) => NO,
-            _ => MACHINE,
-        }
+    /// Each total with its name.
+    fn each(&self) -> [(&'static str, u64); 8] {
+        [
+            ("yes", self.yes),
+            ("deleted", self.deleted),
+            ("moved", self.moved),
+            ("not yet", self.not_yet),
+            ("no keep line", self.no_keep_line),
+            ("refused", self.refused),
+            ("failed", self.failed),
+            ("not a holding", self.not_a_holding),
+        ]
     }
 
     fn text(&self) -> String {
-        format!(
-            "{} ledgers: {} yes, {} deleted, {} not yet, {} no keep line, {} refused, {} failed",
-            self.ledgers, self.yes, self.deleted, self.not_yet, self.no_keep_line, self.refused, self.failed
-        )
+        let each = self.each().map(|(word, number)| format!("{number} {word}"));
+        format!("{} ledgers: {}", self.ledgers, each.join(", "))
     }
 
     fn value(&self) -> Value {
-        json!({
-            "ledgers": self.ledgers, "yes": self.yes, "deleted": self.deleted, "not_yet": self.not_yet,
-            "no_keep_line": self.no_keep_line, "refused": self.refused, "failed": self.failed,
-        })
+        let mut value = json!({"ledgers": self.ledgers});
+        for (word, number) in self.each() {
+            value[word.replace(' ', "_")] = json!(number);
+        }
+        value
     }
 }

@@ -2,34 +2,30 @@
 //!
 //! A library preloaded into the real command makes one call fail or ends the process there (fault.c).
 mod common;
-use common::{command, folder, plain_frame, ran, Folder, Ran};
+use common::{command_on, folder, plain_frame, ran, Folder, Ran, TODAY};
+use std::collections::BTreeSet;
 use std::fs;
-use std::path::{Path, PathBuf};
 use std::process::Command;
 use std::sync::OnceLock;
 
 const KILLS: [&str; 3] = ["before", "after", "torn"];
 /// EIO, ENOSPC, EROFS.
 const ERRORS: [&str; 3] = ["5", "28", "30"];
+/// The day on which the holding of these tests may go.
+const DUE: &str = "2031-11-03";
 
-/// The preloaded library, built once.
-fn fault_library() -> &'static Path {
-    static BUILT: OnceLock<PathBuf> = OnceLock::new();
-    BUILT.get_or_init(|| {
-        let library = Path::new(env!("CARGO_TARGET_TMPDIR")).join("fault.so");
-        let source = concat!(env!("CARGO_MANIFEST_DIR"), "/tests/fault.c");
-        let status = Command::new("cc").args(["-O1", "-shared", "-fPIC", source, "-ldl", "-o"]).arg(&library).status();
-        assert!(status.unwrap().success());
-        library
-    })
+/// The command in this folder. Sweeps run on the day that the holding is due.
+fn prepared(f: &Folder, words: &str) -> Command {
+    let mut run = command_on(if words.starts_with("sweep") { DUE } else { TODAY });
+    run.args(words.split(' ')).current_dir(f.path());
+    run
 }
 
 /// A run in which call `at` meets a fault. None where there is no such call, and then the run must have been accepted.
 fn faulty(f: &Folder, words: &str, fault: &str, at: u32) -> Option<Ran> {
     let mark = f.join("mark");
     let _ = fs::remove_file(&mark);
-    let mut run = command();
-    run.args(words.split(' ')).current_dir(f.path()).env("LD_PRELOAD", fault_library());
+    let mut run = prepared(f, words);
     run.env("FAULT", fault).env("FAULT_AT", at.to_string()).env("FAULT_MARK", &mark);
     let ran = ran(run.output().unwrap());
     if mark.exists() {
@@ -39,14 +35,19 @@ fn faulty(f: &Folder, words: &str, fault: &str, at: u32) -> Option<Ran> {
     None
 }
 
-/// The bytes of held file and ledger, where they exist.
-type State = (Option<Vec<u8>>, Option<Vec<u8>>);
+/// The bytes of held file, ledger and sums, where they exist.
+type State = [Option<Vec<u8>>; 3];
+const GONE: State = [None, None, None];
 
 fn state(f: &Folder) -> State {
-    (fs::read(f.join("a.held")).ok(), fs::read(f.join("a.ledger")).ok())
+    state_of(f, "a")
 }
 
-/// A folder with a frame and, for the other changes, a holding of three lines.
+fn state_of(f: &Folder, name: &str) -> State {
+    ["held", "ledger", "sha256"].map(|ending| fs::read(f.join(&format!("{name}.{ending}"))).ok())
+}
+
+/// A folder with a frame and, for the other changes, a holding of three lines; from before there were sums, to seal it.
 fn before(words: &str) -> Folder {
     let f = folder();
     f.put("a.sfrm", plain_frame());
@@ -55,6 +56,21 @@ fn before(words: &str) -> Folder {
         f.done("correct a 3 300");
         f.done("keep a 2031-11-02");
         f.done("correct a 4 70000");
+    }
+    if words.contains("--seal") {
+        f.without_sums("a");
+    }
+    f
+}
+
+/// The folder as it was, from the bytes.
+fn before_again(words: &str, old: &State) -> Folder {
+    let f = folder();
+    f.put("a.sfrm", plain_frame());
+    for (ending, bytes) in ["held", "ledger", "sha256"].iter().zip(old) {
+        if let (false, Some(bytes)) = (words.starts_with("open"), bytes) {
+            f.put(&format!("a.{ending}"), bytes);
+        }
     }
     f
 }
@@ -65,7 +81,7 @@ fn check(f: &Folder, words: &str, ran: &Ran, old: &State, new: &State) {
     let next = f.run("verify a");
     let found = state(f);
     assert!(found == *old || found == *new, "{words}: {ran:?}, then {next:?}");
-    assert_eq!(next.status, if found.1.is_some() { Some(0) } else { Some(3) }, "{words}: {next:?}");
+    assert_eq!(next.status, if found[1].is_some() { Some(0) } else { Some(3) }, "{words}: {next:?}");
     assert!(!f.has("a.redo"), "{words}: {ran:?}");
     if ran.status == Some(0) || ran.err.contains("finishes it") || ran.err.contains("is made") {
         assert_eq!(found, *new, "{words}: {ran:?}");
@@ -73,14 +89,29 @@ fn check(f: &Folder, words: &str, ran: &Ran, old: &State, new: &State) {
         assert_eq!(found, *old, "{words}: {ran:?}");
         assert!(ran.err.starts_with("quayrudder: a.") && ran.err.contains(": cannot "), "{ran:?}");
     }
+    check_strays(f, words, &found);
+}
+
+/// After the next change nothing lies there that does not belong to the holding, and the sums are right by themselves.
+fn check_strays(f: &Folder, words: &str, found: &State) {
+    let change = if words.starts_with("open") { words } else { "keep a 2050-01-01" };
+    let status = if words.starts_with("open") && found[1].is_some() { Some(1) } else { Some(0) };
+    let next = f.run(change);
+    assert_eq!(next.status, status, "{words}, then {change}: {next:?}");
+    let belong = ["a.held", "a.ledger", "a.sha256", "a.lock", "a.sfrm", "mark"];
+    let strays: Vec<String> = f.names().into_iter().filter(|name| !belong.contains(&name.as_str())).collect();
+    assert!(strays.is_empty(), "{words}: {strays:?}");
+    assert_eq!(fs::metadata(f.join("a.lock")).unwrap().len(), 0, "{words}");
+    assert!(!f.has("a.sha256") || f.sums_hold("a.sha256"), "{words}");
 }
 
 /// Every fault at every call of one change.
-fn at_every_step(words: &str, faults: &[&str]) {
+fn at_every_step(words: &str, faults: &[&str], least: u32) {
     let done = before(words);
     let old = state(&done);
     done.done(words);
     let new = state(&done);
+    assert_ne!(old, new);
     for fault in faults {
         let mut steps = 0;
         loop {
@@ -89,72 +120,81 @@ fn at_every_step(words: &str, faults: &[&str]) {
             check(&f, words, &ran, &old, &new);
             steps += 1;
         }
-        assert!(steps >= 15, "{words}: only {steps} steps");
+        assert!(steps >= least, "{words}: only {steps} steps");
     }
-}
-
-/// The folder as it was, from the bytes.
-fn before_again(words: &str, old: &State) -> Folder {
-    let f = folder();
-    f.put("a.sfrm", plain_frame());
-    if let (false, (Some(held), Some(ledger))) = (words.starts_with("open"), old) {
-        f.put("a.held", held);
-        f.put("a.ledger", ledger);
-    }
-    f
 }
 
 #[test]
 fn killed_at_every_step_of_a_correction() {
-    at_every_step("correct a 1,1 65535", &KILLS);
+    at_every_step("correct a 1,1 65535", &KILLS, 26);
 }
 
 #[test]
 fn failed_at_every_step_of_a_correction() {
-    at_every_step("correct a 1,1 65535", &ERRORS);
+    at_every_step("correct a 1,1 65535", &ERRORS, 26);
 }
 
 #[test]
 fn killed_at_every_step_of_a_withdrawal() {
-    at_every_step("withdraw a", &KILLS);
+    at_every_step("withdraw a", &KILLS, 26);
 }
 
 #[test]
 fn failed_at_every_step_of_a_withdrawal() {
-    at_every_step("withdraw a", &ERRORS);
+    at_every_step("withdraw a", &ERRORS, 26);
 }
 
 #[test]
 fn killed_and_failed_at_every_step_of_opening() {
-    at_every_step("open a.sfrm --form 1+2 --room 50 -o a", &KILLS);
-    at_every_step("open a.sfrm --form 1+2 --room 50 -o a", &ERRORS);
+    at_every_step("open a.sfrm --form 1+2 --room 50 -o a", &KILLS, 26);
+    at_every_step("open a.sfrm --form 1+2 --room 50 -o a", &ERRORS, 26);
 }
 
 #[test]
 fn killed_and_failed_at_every_step_of_a_keep_line() {
-    at_every_step("keep a 2032-01-01", &KILLS);
-    at_every_step("keep a 2032-01-01", &ERRORS);
+    at_every_step("keep a 2032-01-01", &KILLS, 22);
+    at_every_step("keep a 2032-01-01", &ERRORS, 22);
 }
+
+#[test]
+fn killed_and_failed_at_every_step_of_sealing() {
+    at_every_step("verify --seal a", &KILLS, 17);
+    at_every_step("verify --seal a", &ERRORS, 17);
+}
+
+/// The names and bytes of all that lies in a folder.
+type Lying = Vec<(String, Vec<u8>)>;
 
 /// A holding with a record of a correction that was not applied, and the state that it leads to.
 fn unfinished() -> (Folder, State) {
+    static MADE: OnceLock<(Lying, State)> = OnceLock::new();
+    let (files, new) = MADE.get_or_init(make_unfinished);
+    let f = folder();
+    files.iter().for_each(|(name, bytes)| f.put(name, bytes));
+    (f, new.clone())
+}
+
+/// Killed when the record has its name: all that lies there then, and the state after the change.
+fn make_unfinished() -> (Lying, State) {
     let f = before("correct");
     let done = before_again("correct", &state(&f));
     done.done("correct a 5 5");
-    let at = (1..30).find(|at| faulty(&f, "correct a 5 5", "after", *at).is_none() || f.has("a.redo"));
-    assert!(at.is_some() && f.has("a.redo") && state(&f) != state(&done));
-    (f, state(&done))
+    let mut killed = prepared(&f, "correct a 5 5");
+    killed.env("FAULT", "after").env("FAULT_AT", "rename a.redo").output().unwrap();
+    assert!(f.has("a.redo") && state(&f) != state(&done));
+    (f.names().into_iter().map(|name| (name.clone(), f.get(&name))).collect(), state(&done))
 }
 
 #[test]
 fn every_command_finishes_an_unfinished_change_first() {
-    let commands = ["list a", "verify a", "may-purge a 2031-11-03", "sweep . --day 2031-11-03"];
+    let commands = ["list a", "verify a", "verify .", "may-purge a 2031-11-03", "sweep . --day 2031-11-03"];
     for words in commands {
         let (f, new) = unfinished();
         let ran = f.run(words);
         let said = "a: a change that had been interrupted is finished";
         assert!(ran.status == Some(0) && ran.err.contains(said), "{words}: {ran:?}");
         assert_eq!(state(&f), new, "{words}");
+        assert!(f.sums_hold("a.sha256"), "{words}");
     }
     for words in ["correct a 6 6", "keep a 2033-01-01", "withdraw a"] {
         let (f, _) = unfinished();
@@ -191,61 +231,200 @@ fn a_damaged_record_is_an_error_and_nothing_is_deleted() {
     let commands = ["list a", "verify a", "correct a 1 1", "withdraw a", "keep a 2040-01-01", "may-purge a 2040-01-01"];
     for words in commands {
         let ran = f.run(words);
-        assert!(ran.status == Some(3) && ran.err.contains("a.redo: cannot use it"), "{words}: {ran:?}");
-        assert!(ran.err.contains("Nothing was changed or deleted. Move this file to a safe place"), "{ran:?}");
+        let said = "a.redo: is the record of an unfinished change, and damaged. Nothing was changed or deleted.";
+        assert!(ran.status == Some(4) && ran.err.contains(said), "{words}: {ran:?}");
         assert_eq!(state(&f), old);
     }
-    let ran = f.run("sweep . --day 2040-01-01 --delete");
-    assert!(ran.status == Some(3) && ran.out.starts_with("failed "), "{ran:?}");
+    let ran = f.run_on("2040-01-01", "sweep . --day 2040-01-01 --delete");
+    assert!(ran.status == Some(4) && ran.out.starts_with("failed "), "{ran:?}");
     assert_eq!((state(&f), f.get("a.redo").len()), (old, record.len() - 1));
+}
+
+/// Every fault at every call of a sweep that takes the holding away.
+fn sweep_at_every_step(sweep: &str, least: u32) {
+    let whole = state(&before("correct"));
+    for fault in [KILLS, ERRORS].concat() {
+        let mut steps = 0;
+        loop {
+            let f = before_again("correct", &whole);
+            let Some(ran) = faulty(&f, sweep, fault, steps + 1) else { break };
+            steps += 1;
+            check_sweep(&f, &format!("{sweep}, {fault} at {steps}: {ran:?}"), &whole);
+            let last = Some(state(&f)).filter(|found| found[0].is_some()).unwrap_or(whole.clone());
+            let arrives = if sweep.contains("--into") { &last } else { &GONE };
+            let next = ran_again(&f, sweep);
+            assert!(next.status == Some(0) && state(&f) == GONE, "{fault} at {steps}: {ran:?}, then {next:?}");
+            assert!(state_of(&f, "bin/a") == *arrives, "{fault} at {steps}");
+            let expected = ["a.sfrm", "bin", "mark", "quayrudder-purge.log"].map(str::to_string);
+            let expected = BTreeSet::from(expected);
+            assert!(f.names().is_subset(&expected), "{fault} at {steps}: {:?}", f.names());
+        }
+        assert!(steps >= least, "{sweep}: only {steps} steps");
+    }
+}
+
+fn ran_again(f: &Folder, words: &str) -> Ran {
+    ran(prepared(f, words).output().unwrap())
+}
+
+/// After a fault in a sweep: nothing has gone unlogged, the ledger goes last, and a change is made in a whole holding or
+/// not at all.
+fn check_sweep(f: &Folder, said: &str, whole: &State) {
+    let log = fs::read_to_string(f.join("quayrudder-purge.log")).unwrap_or_default();
+    let found = state(f);
+    assert!(
+        found == *whole
+            || log.contains(" ./a: deleting\n  decided by line 2")
+            || log.contains("./a: moving to bin/a\n")
+    );
+    assert!(found[1].is_some() || found[0].is_none(), "{said}");
+    if found[0].is_none() && found[1].is_some() {
+        let keep = f.run("keep a 2031-11-05");
+        assert!(keep.status == Some(4) && state(f) == found, "{said}, then {keep:?}");
+    }
+    if found[0].is_some() {
+        let keep = f.run("withdraw a");
+        assert!(keep.status == Some(0) && f.run("correct a 4 70000").status == Some(0), "{said}, then {keep:?}");
+    }
 }
 
 #[test]
 fn a_purge_is_in_the_log_before_it_is_made_and_is_finished_by_the_next() {
-    let sweep = "sweep . --day 2031-11-03 --delete";
+    sweep_at_every_step("sweep . --delete", 25);
+}
+
+#[test]
+fn a_holding_is_moved_whole_at_every_step() {
+    sweep_at_every_step("sweep . --into bin", 29);
+}
+
+/// A sweep is killed when the held file has gone, and then the one that finishes it meets every fault at every call.
+fn finishing_at_every_step(sweep: &str, first: &str, least: u32) {
+    let whole = state(&before("correct"));
     for fault in [KILLS, ERRORS].concat() {
-        for at in 1..40 {
-            let f = before("correct");
-            let Some(ran) = faulty(&f, sweep, fault, at) else { break };
-            let log = fs::read_to_string(f.join("quayrudder-purge.log")).unwrap_or_default();
-            let whole = f.has("a.held") && f.has("a.ledger");
-            assert!(whole || log.contains("Z day 2031-11-03 deleting ./a\n"), "{fault} at {at}: {ran:?}");
-            assert!(f.has("a.ledger") || !f.has("a.held"), "{fault} at {at}: {ran:?}");
-            assert_eq!(f.run(sweep).status, Some(0), "{fault} at {at}");
-            assert_eq!(state(&f), (None, None), "{fault} at {at}");
+        let mut steps = 0;
+        loop {
+            let f = before_again("correct", &whole);
+            prepared(&f, sweep).env("FAULT", "after").env("FAULT_AT", first).output().unwrap();
+            assert!(!f.has("a.held") && f.has("a.ledger"));
+            let Some(ran) = faulty(&f, sweep, fault, steps + 1) else { break };
+            steps += 1;
+            let next = ran_again(&f, sweep);
+            assert!(next.status == Some(0) && state(&f) == GONE, "{fault} at {steps}: {ran:?}, then {next:?}");
+            let arrived = if sweep.contains("--into") { &whole } else { &GONE };
+            assert!(
+                state_of(&f, "bin/a") == *arrived && !f.has("a.redo") && !f.has("a.lock"),
+                "{fault} at {steps}: {ran:?}"
+            );
         }
+        assert!(steps >= least, "{sweep}: only {steps} steps");
     }
+}
+
+#[test]
+fn finishing_a_purge_or_a_move_may_be_interrupted_at_every_step_too() {
+    finishing_at_every_step("sweep . --delete", "unlink a.held", 15);
+    finishing_at_every_step("sweep . --into bin", "rename a.held", 15);
 }
 
 /// The calls of one run, without those that only say something.
 fn calls(f: &Folder, words: &str) -> String {
     let log = f.join("log");
-    let mut run = command();
-    run.args(words.split(' ')).current_dir(f.path()).env("LD_PRELOAD", fault_library()).env("FAULT_LOG", &log);
-    assert!(run.output().unwrap().status.success());
-    let text = fs::read_to_string(log).unwrap();
+    assert!(prepared(f, words).env("FAULT_LOG", &log).output().unwrap().status.success());
+    let text = fs::read_to_string(&log).unwrap();
+    fs::remove_file(log).unwrap();
     let folder = f.path().file_name().unwrap().to_string_lossy().into_owned();
-    let mut lines: Vec<&str> = text.lines().filter(|line| line.contains("a.") || line.contains(&folder)).collect();
+    let mut lines: Vec<String> = text.lines().filter(|line| !line.contains("pipe:")).map(without_random).collect();
     lines.dedup();
     lines.join("\n").replace(&folder, "FOLDER")
 }
 
+/// A temporary file's name without its random part.
+fn without_random(line: &str) -> String {
+    match line.strip_suffix(".quayrudder") {
+        Some(start) => format!("{}new", &start[..start.len() - 12]),
+        None => line.to_string(),
+    }
+}
+
+/// A file's new contents are made, get their permissions and are synced.
+fn staged(name: &str) -> String {
+    ["create", "write", "fchmod", "fsync"].map(|call| format!("{call} .{name}.new\n")).concat()
+}
+
+const MARKED: &str = "create a.lock\npwrite a.lock\nfsync a.lock\n";
+const RECORDED: &str = "rename a.redo\nfsync FOLDER\n";
+
 #[test]
 fn everything_is_synced_before_it_is_relied_on() {
+    let all = ["a.held", "a.ledger", "a.sha256", "a.redo"].map(staged).concat();
+    let placed = "rename a.held\nrename a.ledger\nrename a.sha256\nfsync FOLDER\nunlink a.redo\nftruncate a.lock";
     let f = before("correct");
-    let staged = |name: &str| format!("write {name}.tmp\nfsync {name}.tmp\n");
-    let fresh = |name: &str| format!("create {name}.tmp\nfchmod {name}.tmp\n") + &staged(name);
-    let record = "create a.redo.tmp\n".to_string() + &staged("a.redo") + "rename a.redo\nfsync FOLDER\n";
-    let placed = "rename a.held\nrename a.ledger\nfsync FOLDER\nunlink a.redo";
-    let expected = "create a.lock\n".to_string() + &fresh("a.held") + &fresh("a.ledger") + &record + placed;
-    assert_eq!(calls(&f, "correct a 1 1"), expected);
+    assert_eq!(calls(&f, "correct a 1 1"), MARKED.to_string() + &all + RECORDED + placed);
+    let f = before("open");
+    let all = all.replace("write .a.ledger.new\n", "");
+    assert_eq!(calls(&f, "open a.sfrm --form 1 -o a"), MARKED.to_string() + &all + RECORDED + placed);
+}
+
+#[test]
+fn a_change_that_is_finished_later_is_synced_as_well() {
+    let (f, _) = unfinished();
+    let first =
+        "create a.lock\n".to_string() + &calls_that_clear(&f) + "ftruncate a.lock\npwrite a.lock\nfsync a.lock\n";
+    let again = ["a.held", "a.ledger", "a.sha256"].map(staged).concat() + "fsync FOLDER\n";
+    let placed = "rename a.held\nrename a.ledger\nrename a.sha256\nfsync FOLDER\nunlink a.redo\nftruncate a.lock";
+    assert_eq!(calls(&f, "list a"), first + &again + placed);
+}
+
+/// What the killed process had not put in place yet goes first.
+fn calls_that_clear(f: &Folder) -> String {
+    let entries = fs::read_dir(f.path()).unwrap().map(|entry| entry.unwrap().file_name().into_string().unwrap());
+    let left = entries.filter(|name| name.ends_with(".quayrudder"));
+    left.map(|name| without_random(&format!("unlink {name}")) + "\n").collect()
+}
+
+#[test]
+fn an_output_is_synced_before_it_has_its_name_and_after() {
+    let f = before("open");
+    assert_eq!(calls(&f, "expand a.sfrm -o a.npy"), staged("a.npy") + "rename a.npy\nfsync FOLDER");
+    assert_eq!(calls(&f, "expand a.sfrm -o a.npy --force"), staged("a.npy") + "rename a.npy\nfsync FOLDER");
+}
+
+#[test]
+fn a_purge_that_is_given_up_is_synced() {
+    let f = before("correct");
+    faulty(&f, "sweep . --delete", "before", 1);
+    let mut killed = prepared(&f, "sweep . --delete");
+    killed.env("FAULT", "after").env("FAULT_AT", "rename a.redo").output().unwrap();
+    assert!(f.has("a.redo") && f.has("a.held"));
+    let cleared = "create a.lock\nftruncate a.lock\n";
+    assert_eq!(calls(&f, "list a"), cleared.to_string() + "unlink a.redo\nfsync FOLDER");
+    assert_eq!(state(&f), state(&before("correct")));
+}
+
+#[test]
+fn a_purge_is_synced_after_each_step() {
+    let start = "create quayrudder-purge.log\nfsync FOLDER\ncreate a.lock\n";
+    let logged = "write quayrudder-purge.log\nfsync quayrudder-purge.log\n";
+    let recorded = "pwrite a.lock\nfsync a.lock\n".to_string() + &staged("a.redo") + RECORDED;
+    let end = "unlink a.redo\nunlink a.lock\nfsync FOLDER";
+    let f = before("correct");
+    let deleted = "unlink a.held\nfsync FOLDER\nunlink a.sha256\nunlink a.ledger\nfsync FOLDER\n";
+    assert_eq!(
+        calls(&f, "sweep . --delete"),
+        start.to_string() + logged + &recorded + deleted + end + "\n" + logged.trim_end()
+    );
+    let f = before("correct");
+    let both = "fsync bin\nfsync FOLDER\n";
+    let made = "mkdir bin\nfsync FOLDER\n";
+    let moved = format!("rename a.held\n{both}rename a.sha256\nrename a.ledger\n{both}");
+    let run = calls(&f, "sweep . --into bin");
+    assert_eq!(run, start.to_string() + logged + made + &recorded + &moved + end + "\n" + logged.trim_end());
 }
 
 /// Runs the command as on a folder in which nothing can be made, renamed or removed.
 fn read_only(f: &Folder, words: &str) -> Ran {
-    let mut run = command();
-    run.args(words.split(' ')).current_dir(f.path()).env("LD_PRELOAD", fault_library()).env("FAULT", "readonly");
-    ran(run.output().unwrap())
+    ran(prepared(f, words).env("FAULT", "readonly").output().unwrap())
 }
 
 #[test]
@@ -272,10 +451,11 @@ fn an_output_that_cannot_be_written_leaves_nothing_behind() {
     let f = before("open");
     for words in ["expand a.sfrm -o out.npy", "view a.sfrm -o out.png"] {
         for fault in ERRORS {
-            for at in 1..=4 {
+            for at in 1..=5 {
                 let ran = faulty(&f, words, fault, at).unwrap();
                 assert!(ran.status == Some(3) && ran.err.contains("out."), "{words} {at}: {ran:?}");
-                assert!(!f.has("out.npy") && !f.has("out.png") && !f.has("out.npy.tmp"), "{words} {at}");
+                let left: Vec<String> = f.names().into_iter().filter(|name| name.contains("out.")).collect();
+                assert!(left.is_empty(), "{words} {at}: {left:?}");
             }
         }
     }

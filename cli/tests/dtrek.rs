@@ -115,7 +115,7 @@ fn each_refusal_of_a_dtrek_image_has_its_sentence() {
     refused(&f, &changed("DIM=", "COMPRESSION=None;\nDIM="), 35, "(Data_type=unsigned short int, COMPRESSION=None)");
     refused(&f, &whole[..523], 11, "the bytes end before the image does. Compare");
     let ran = f.run("expand bad.img -o a.raw --json");
-    assert!(ran.status == Some(1) && ran.out.contains(r#""refusal":11,"#) && !f.has("a.raw"), "{ran:?}");
+    assert!(ran.status == Some(4) && ran.out.contains(r#""refusal":11,"#) && !f.has("a.raw"), "{ran:?}");
 }
 
 #[test]

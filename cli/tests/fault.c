@@ -1,7 +1,10 @@
-/* Preloaded by the tests. Counts the calls that change files, and at call FAULT_AT fails or ends the process:
+/* Preloaded by the tests. Counts the calls that change files, and at call FAULT_AT (its number, or its line in the log) fails or ends the process:
    FAULT=before, after: killed before or after the call; torn: killed with half of a write done; a number: the call fails with this errno.
    FAULT=readonly: every call that would make, rename or remove a file fails with EROFS.
-   FAULT_LOG names a file that gets a line for each call. FAULT_MARK names one that is made when call FAULT_AT comes. */
+   FAULT_LOG names a file that gets a line for each call. FAULT_MARK names one that is made when call FAULT_AT comes.
+   FAULT_CLOCK: the time of day in seconds, which stands still. FAULT_RENAMEAT2: every renameat2 fails with this errno.
+   FAULT_RUN: a shell command that is run, without this library, once before the call that FAULT_RUN_AT names by its line, or else before
+   every call, with the line in CALL. For this, opening a file to read is a call too. */
 #define _GNU_SOURCE
 #include <dlfcn.h>
 #include <errno.h>
@@ -11,8 +14,10 @@
 #include <stdio.h>
 #include <stdlib.h>
 #include <string.h>
+#include <sys/stat.h>
 #include <sys/syscall.h>
 #include <sys/uio.h>
+#include <time.h>
 #include <unistd.h>
 
 enum { GO, BEFORE, AFTER, TORN, FAIL };
@@ -23,12 +28,29 @@ static void note(const char *path, const char *text) {
     syscall(SYS_close, fd);
 }
 
-static void say(const char *call, const char *path) {
-    char line[4200];
-    const char *log = getenv("FAULT_LOG"), *name = strrchr(path, '/');
+/* A call's line in the log: its name and the file's. */
+static const char *line_of(const char *call, const char *path) {
+    static __thread char line[4200];
+    const char *name = strrchr(path, '/');
+    snprintf(line, sizeof line, "%s %s", call, name ? name + 1 : path);
+    return line;
+}
+
+static void say(const char *line) {
+    const char *log = getenv("FAULT_LOG");
     if (!log) return;
-    snprintf(line, sizeof line, "%s %s\n", call, name ? name + 1 : path);
     note(log, line);
+    note(log, "\n");
+}
+
+/* Somebody else's work at a chosen moment. */
+static void interrupt(const char *line) {
+    static int done;
+    const char *run = getenv("FAULT_RUN"), *at = getenv("FAULT_RUN_AT");
+    if (!run || (at && (strcmp(line, at) || __atomic_exchange_n(&done, 1, __ATOMIC_SEQ_CST)))) return;
+    setenv("CALL", line, 1);
+    unsetenv("LD_PRELOAD");
+    if (system(run)) note("/dev/stderr", "FAULT_RUN failed\n");
 }
 
 static int plan(const char *fault) {
@@ -43,13 +65,15 @@ static int plan(const char *fault) {
 static int due(const char *call, const char *path, int makes) {
     static long calls;
     const char *fault = getenv("FAULT"), *at = getenv("FAULT_AT"), *mark = getenv("FAULT_MARK");
-    say(call, path);
+    const char *line = line_of(call, path);
+    interrupt(line);
+    say(line);
     if (!fault) return GO;
     if (!strcmp(fault, "readonly")) {
         errno = EROFS;
         return makes ? FAIL : GO;
     }
-    if (!at || __atomic_add_fetch(&calls, 1, __ATOMIC_SEQ_CST) != atol(at)) return GO;
+    if (!at || (__atomic_add_fetch(&calls, 1, __ATOMIC_SEQ_CST) != atol(at) && strcmp(line, at))) return GO;
     if (mark) note(mark, "");
     int planned = plan(fault);
     if (planned == BEFORE) kill(getpid(), SIGKILL);
@@ -107,6 +131,32 @@ int rename(const char *from, const char *to) {
     ON("rename", to, 1);
     return done(planned, REAL(rename, const char *, const char *)(from, to));
 }
+int renameat2(int from_folder, const char *from, int to_folder, const char *to, unsigned flags) {
+    ON("rename", to, 1);
+    if (getenv("FAULT_RENAMEAT2")) {
+        errno = atoi(getenv("FAULT_RENAMEAT2"));
+        return -1;
+    }
+    return done(planned, syscall(SYS_renameat2, from_folder, from, to_folder, to, flags));
+}
+int linkat(int from_folder, const char *from, int to_folder, const char *to, int flags) {
+    ON("link", to, 1);
+    return done(planned, REAL(linkat, int, const char *, int, const char *, int)(from_folder, from, to_folder, to, flags));
+}
+int mkdir(const char *path, mode_t mode) {
+    ON("mkdir", path, 1);
+    return done(planned, REAL(mkdir, const char *, mode_t)(path, mode));
+}
+int fchown(int fd, uid_t user, gid_t group) {
+    ON("fchown", path_of(fd), 0);
+    return done(planned, REAL(fchown, int, uid_t, gid_t)(fd, user, group));
+}
+int clock_gettime(clockid_t clock, struct timespec *now) {
+    const char *set = getenv("FAULT_CLOCK");
+    int answer = syscall(SYS_clock_gettime, clock, now);
+    if (set && clock == CLOCK_REALTIME) *now = (struct timespec){atol(set), 0};
+    return answer;
+}
 int unlink(const char *path) {
     ON("unlink", path, 1);
     return done(planned, REAL(unlink, const char *)(path));
@@ -116,7 +166,10 @@ int open64(const char *path, int flags, ...) {
     va_start(rest, flags);
     mode_t mode = flags & O_CREAT ? va_arg(rest, mode_t) : 0;
     va_end(rest);
-    if (!(flags & O_CREAT)) return REAL(open64, const char *, int, mode_t)(path, flags, mode);
+    if (!(flags & O_CREAT)) {
+        interrupt(line_of("open", path));
+        return REAL(open64, const char *, int, mode_t)(path, flags, mode);
+    }
     ON("create", path, 1);
     return done(planned, REAL(open64, const char *, int, mode_t)(path, flags, mode));
 }

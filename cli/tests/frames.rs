@@ -39,13 +39,13 @@ fn info_goes_on_after_a_bad_frame_and_gives_the_worst_status() {
     f.put("b.sfrm", "short");
     let ran = f.run("info b.sfrm a.sfrm");
     assert!(
-        ran.status == Some(1) && ran.out.contains("a.sfrm: FORMAT 100") && ran.err.contains("refusal 1:"),
+        ran.status == Some(4) && ran.out.contains("a.sfrm: FORMAT 100") && ran.err.contains("refusal 1:"),
         "{ran:?}"
     );
     let ran = f.run("info b.sfrm missing a.sfrm");
-    assert!(ran.status == Some(3) && ran.err.contains("missing: cannot read it: No such file"), "{ran:?}");
+    assert!(ran.status == Some(4) && ran.err.contains("missing: cannot read it: No such file"), "{ran:?}");
     let ran = f.run("info b.sfrm --json");
-    assert!(ran.status == Some(1) && ran.out.contains(r#""refusal":1"#) && ran.err.is_empty(), "{ran:?}");
+    assert!(ran.status == Some(4) && ran.out.contains(r#""refusal":1"#) && ran.err.is_empty(), "{ran:?}");
 }
 
 /// A frame with one header line changed, its refusal and a part of its sentence.

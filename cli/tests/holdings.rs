@@ -20,18 +20,18 @@ fn a_day_with_a_holding() {
     assert_eq!((f.get("a.held").len(), f.get("a.ledger").len()), (LENGTH + 16 + 100, 0));
     assert_eq!(f.done("list a"), "standing 0\n");
     assert_eq!(f.done("correct a 1,2 70000"), "a: line 1: pixel 6 corrected from 66 to 70000\n");
-    assert_eq!(f.done("keep a 2031-11-02"), "a: line 2: kept until 2031-11-02\n");
+    assert_eq!(f.done("keep a 2031-11-02"), "a: line 2: kept until 2031-11-02 (no date before)\n");
     assert_eq!(f.get("a.ledger")[16..20], [0x5f, 0xbe, 0xc4, 0]);
     assert_eq!(f.done("correct a 15 0"), "a: line 3: pixel 15 corrected from 75 to 0\n");
     assert_eq!((counts(&f)[6], counts(&f)[15]), (70000, 0));
-    assert_eq!(f.done("verify a"), "a: held frame and ledger agree, 3 lines, 3 standing\n");
+    assert_eq!(f.done("verify a"), "a: held frame, ledger and sums agree, 3 lines, 3 standing\n");
     assert_eq!(f.done("withdraw a"), "a: line 4 withdraws line 3: pixel 15 corrected from 75 to 0\n");
-    assert_eq!(f.done("withdraw a"), "a: line 5 withdraws line 2: kept until 2031-11-02\n");
+    assert_eq!(f.done("withdraw a"), "a: line 5 withdraws line 2: kept until 2031-11-02; no keep date stands now\n");
     let listing = "line 1 correct 6 66 70000\nline 2 keep 2031-11-02 withdrawn\nline 3 correct 15 75 0 withdrawn\n\
                    line 4 withdraw\nline 5 withdraw\nstanding 1\n";
     assert_eq!(f.done("list a"), listing);
     assert_eq!((counts(&f)[6], counts(&f)[15]), (70000, 75));
-    assert_eq!(f.done("verify a"), "a: held frame and ledger agree, 5 lines, 1 standing\n");
+    assert_eq!(f.done("verify a"), "a: held frame, ledger and sums agree, 5 lines, 1 standing\n");
 }
 
 #[test]
@@ -109,6 +109,7 @@ fn each_refusal_of_a_change_has_its_sentence() {
     untouched(&f, "correct a 18446744073709551615,1 1", 24, "no such pixel");
     untouched(&f, "withdraw a", 22, "nothing stands");
     f.done("correct a 3,3 9");
+    f.without_sums("a");
     let (held, ledger) = (f.get("a.held"), f.get("a.ledger"));
     f.put("a.ledger", [&ledger[..], &[1, 2, 3]].concat());
     untouched(&f, "correct a 1 1", 20, "a.ledger: refusal 20: the ledger is malformed (it has 19 bytes");
@@ -133,6 +134,7 @@ fn each_refusal_of_a_question_has_its_sentence() {
     let f = folder();
     f.hold("2", 10);
     f.done("correct a 15 9");
+    f.without_sums("a");
     let ledger = f.get("a.ledger");
     f.put("a.ledger", [ledger.as_slice(), &[0xc0; 16]].concat());
     for words in ["list a", "may-purge a 2031-11-03", "verify a"] {
@@ -143,7 +145,7 @@ fn each_refusal_of_a_question_has_its_sentence() {
         untouched(&f, words, 20, "it has 7 bytes, and a ledger is whole lines of 16 bytes");
     }
     let json = f.run("list a --json");
-    assert!(json.status == Some(1) && json.out.contains(r#""refusal":20"#) && json.err.is_empty(), "{json:?}");
+    assert!(json.status == Some(4) && json.out.contains(r#""refusal":20"#) && json.err.is_empty(), "{json:?}");
 }
 
 #[test]
@@ -153,6 +155,7 @@ fn verify_finds_what_is_wrong() {
     f.done("correct a 15 9");
     let held = f.get("a.held");
     assert_eq!(f.done("verify a a.held a.ledger").lines().count(), 3);
+    f.without_sums("a");
     f.put("a.held", [&held[..held.len() - 1], &[1]].concat());
     untouched(&f, "verify a", 19, "a.held: refusal 19");
     f.put("a.held", plain_held(&held));
@@ -161,8 +164,8 @@ fn verify_finds_what_is_wrong() {
     f.done("open a.sfrm --form 4 --room 0 -o b");
     fs::remove_file(f.join("b.held")).unwrap();
     let ran = f.run("verify nosuch b a");
-    assert!(ran.status == Some(3) && ran.out.starts_with("a: held frame and ledger agree"), "{ran:?}");
-    assert!(ran.err.contains("nosuch.ledger: cannot find it") && ran.err.contains("b.held: cannot read it"), "{ran:?}");
+    assert!(ran.status == Some(4) && ran.out.starts_with("a: held frame and ledger agree"), "{ran:?}");
+    assert!(ran.err.contains("nosuch.ledger: cannot find it") && ran.err.contains("b.held: is missing"), "{ran:?}");
     assert!(!f.has("nosuch.lock"));
 }
 

@@ -114,7 +114,7 @@ fn each_refusal_of_a_mar_image_has_its_sentence() {
         "a high-intensity pair has no pixel of 65535 to itself, or its count is not above 65535 (pair 1, counted",
     );
     let ran = f.run("expand bad.image -o a.raw --json");
-    assert!(ran.status == Some(1) && ran.out.contains(r#""refusal":13,"place":1"#) && !f.has("a.raw"), "{ran:?}");
+    assert!(ran.status == Some(4) && ran.out.contains(r#""refusal":13,"place":1"#) && !f.has("a.raw"), "{ran:?}");
     case(&whole[1..], 2, "a name of header lines 0 to 2 is wrong. Check that this is a Bruker frame");
 }
 

@@ -35,7 +35,7 @@ fn a_thousand_corrections_by_two_and_none_is_lost() {
     let expected: HashSet<u32> = (100_000..100_500).chain(200_000..200_500).collect();
     assert_eq!(counts, expected);
     assert!(listing.ends_with("standing 1000\n"));
-    assert_eq!(f.done("verify a"), "a: held frame and ledger agree, 1000 lines, 1000 standing\n");
+    assert_eq!(f.done("verify a"), "a: held frame, ledger and sums agree, 1000 lines, 1000 standing\n");
 }
 
 fn last_number(line: &str) -> u32 {
@@ -94,7 +94,7 @@ fn a_holding_purged_while_its_lock_was_waited_for_is_missing() {
     let lock = locked(&f);
     let waiting = correcting(&f);
     thread::sleep(Duration::from_millis(200));
-    for ending in ["held", "ledger", "lock"] {
+    for ending in ["held", "ledger", "sha256", "lock"] {
         fs::remove_file(f.join(&format!("a.{ending}"))).unwrap();
     }
     drop(lock);
@@ -118,4 +118,41 @@ fn a_lock_file_that_was_replaced_is_not_the_lock() {
     drop(new);
     assert_eq!(waiting.wait_with_output().unwrap().status.code(), Some(0));
     assert_eq!(f.get("a.ledger").len(), 16);
+}
+
+#[test]
+fn a_keep_date_and_a_purge_at_once_are_never_both_made() {
+    let f = folder();
+    f.put("a.sfrm", common::plain_frame());
+    for round in 0..60 {
+        f.done("open a.sfrm --form 1 -o a");
+        f.done("keep a 2031-11-02");
+        let (swept, kept) = thread::scope(|scope| {
+            let sweep = scope.spawn(|| f.run_on("2031-11-03", "sweep . --delete"));
+            thread::sleep(Duration::from_micros(100 * round));
+            let kept = f.run("keep a 2040-01-01");
+            (sweep.join().unwrap(), kept)
+        });
+        let deleted = swept.out.starts_with("deleted ");
+        assert_eq!((kept.status == Some(0), f.has("a.held")), (!deleted, !deleted), "{swept:?}, {kept:?}");
+        for ending in ["held", "ledger", "sha256", "lock"] {
+            let _ = fs::remove_file(f.join(&format!("a.{ending}")));
+        }
+    }
+}
+
+#[test]
+fn questions_beside_changes_see_one_state() {
+    let f = folder();
+    large(&f);
+    thread::scope(|scope| {
+        scope.spawn(|| {
+            for step in 0..150 {
+                f.run_quietly(&format!("correct a {step} {}", 300 + step));
+            }
+        });
+        for _ in 0..100 {
+            f.run_quietly("verify a");
+        }
+    });
 }

@@ -2,11 +2,20 @@
 #![allow(dead_code)]
 pub mod header;
 
+use chrono::NaiveDate;
 use header::Header;
+use std::collections::BTreeSet;
 use std::fs;
 use std::path::{Path, PathBuf};
 use std::process::{Command, Output};
+use std::sync::OnceLock;
 use tempfile::TempDir;
+
+/// The day on which the command runs where none is named.
+pub const TODAY: &str = "2026-11-16";
+
+/// The refusals of what is asked for. The others say that a frame, a ledger or a holding is not what it must be.
+const ASKED_FOR: [u32; 11] = [10, 16, 17, 18, 21, 22, 24, 25, 26, 27, 37];
 
 pub struct Folder(TempDir);
 
@@ -25,8 +34,32 @@ pub fn folder() -> Folder {
     Folder(tempfile::Builder::new().prefix("quayrudder-").tempdir_in(parent).unwrap())
 }
 
+/// The real command on a fixed day.
 pub fn command() -> Command {
-    Command::new(env!("CARGO_BIN_EXE_quayrudder"))
+    command_on(TODAY)
+}
+
+/// The real command at noon of this day, by the universal time.
+pub fn command_on(day: &str) -> Command {
+    let noon = NaiveDate::parse_from_str(day, "%Y-%m-%d").unwrap().and_hms_opt(12, 0, 0).unwrap();
+    let mut run = Command::new(env!("CARGO_BIN_EXE_quayrudder"));
+    run.env("LD_PRELOAD", fault_library()).env("FAULT_CLOCK", noon.timestamp().to_string());
+    run
+}
+
+/// The library that is preloaded into the command, built once.
+fn fault_library() -> &'static Path {
+    static BUILT: OnceLock<PathBuf> = OnceLock::new();
+    BUILT.get_or_init(|| {
+        let folder = Path::new(env!("CARGO_TARGET_TMPDIR"));
+        let fresh = folder.join(format!("fault-{}.so", std::process::id()));
+        let source = concat!(env!("CARGO_MANIFEST_DIR"), "/tests/fault.c");
+        let status = Command::new("cc").args(["-O1", "-shared", "-fPIC", source, "-ldl", "-o"]).arg(&fresh).status();
+        assert!(status.unwrap().success());
+        let library = folder.join("fault.so");
+        fs::rename(fresh, &library).unwrap();
+        library
+    })
 }
 
 pub fn ran(output: Output) -> Ran {
@@ -60,6 +93,22 @@ impl Folder {
         ran(command().args(words.split(' ')).current_dir(self.path()).output().unwrap())
     }
 
+    /// The same on another day.
+    pub fn run_on(&self, day: &str, words: &str) -> Ran {
+        ran(command_on(day).args(words.split(' ')).current_dir(self.path()).output().unwrap())
+    }
+
+    /// The names of all that lies in this folder.
+    pub fn names(&self) -> BTreeSet<String> {
+        let entries = fs::read_dir(self.path()).unwrap();
+        entries.map(|entry| entry.unwrap().file_name().to_string_lossy().into_owned()).collect()
+    }
+
+    /// A holding from before there were sums.
+    pub fn without_sums(&self, name: &str) {
+        let _ = fs::remove_file(self.join(&format!("{name}.sha256")));
+    }
+
     /// Runs the command, which must do what it is asked, and gives what it says.
     pub fn done(&self, words: &str) -> String {
         let ran = self.run(words);
@@ -71,8 +120,16 @@ impl Folder {
     pub fn refused(&self, words: &str, number: u32) -> String {
         let ran = self.run(words);
         let start = format!("refusal {number}: ");
-        assert!(ran.status == Some(1) && ran.out.is_empty() && ran.err.contains(&start), "{words}: {ran:?}");
+        let status = if ASKED_FOR.contains(&number) { 1 } else { 4 };
+        assert!(ran.status == Some(status) && ran.out.is_empty() && ran.err.contains(&start), "{words}: {ran:?}");
         ran.err
+    }
+
+    /// Is everything what this sums file says, by Debian's own program?
+    pub fn sums_hold(&self, name: &str) -> bool {
+        let (path, mut sums) = (self.join(name), Command::new("sha256sum"));
+        let folder = path.parent().unwrap();
+        sums.args(["--check", "--strict", "--quiet"]).arg(&path).current_dir(folder).status().unwrap().success()
     }
 
     /// Makes a frame of 4 rows of 4 pixels, 60 to 75, and the holding `a` of it, with this much room.

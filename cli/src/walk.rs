@@ -1,0 +1,110 @@
+//! The holdings below a folder.
+use crate::failure::{Failure, Outcome};
+use crate::files;
+use crate::redo;
+use std::collections::BTreeMap;
+use std::fs::File;
+use std::io::Read;
+use std::path::{Path, PathBuf};
+use walkdir::{DirEntry, WalkDir};
+
+/// What lies under one name.
+#[derive(Clone, Debug, Default, PartialEq, Eq)]
+pub struct Lies {
+    held: bool,
+    ledger: bool,
+    pub redo: bool,
+    lock: bool,
+    /// Temporary files that a killed process left.
+    pub leftovers: Vec<PathBuf>,
+}
+
+pub enum Kind {
+    Holding,
+    /// A ledger that belongs to nothing.
+    Stranger,
+    /// What may be left where no holding is any more: a lock file, temporary files.
+    Rest,
+    /// A held file without its ledger: what is beside it may be needed.
+    Nothing,
+}
+
+/// Names in path order, and what could not be walked.
+#[derive(Default)]
+pub struct Found {
+    pub names: BTreeMap<PathBuf, Lies>,
+    pub unread: Vec<Failure>,
+}
+
+impl Lies {
+    /// A holding is a ledger with its held file, or a record.
+    pub fn kind(&self, name: &Path) -> Kind {
+        if self.held && self.ledger || self.redo && is_record(&files::with_ending(name, ".redo")) {
+            return Kind::Holding;
+        }
+        match (self.ledger, self.held) {
+            (true, _) => Kind::Stranger,
+            (false, true) => Kind::Nothing,
+            (false, false) => Kind::Rest,
+        }
+    }
+
+    fn note(&mut self, ending: &str) {
+        match ending {
+            "held" => self.held = true,
+            "ledger" => self.ledger = true,
+            "redo" => self.redo = true,
+            "lock" => self.lock = true,
+            _ => {}
+        }
+    }
+}
+
+/// Other programs may have files that end like a record.
+fn is_record(path: &Path) -> bool {
+    let mut start = [0; redo::START.len()];
+    File::open(path).and_then(|mut file| file.read_exact(&mut start)).is_ok() && start == redo::START
+}
+
+/// Walks a folder, but for one that is left out.
+pub fn find(folder: &Path, but: Option<&Path>) -> Outcome<Found> {
+    std::fs::read_dir(folder).map_err(Failure::machine(folder, "read"))?;
+    let mut found = Found::default();
+    let wanted = |entry: &DirEntry| but.is_none_or(|but| entry.path() != but);
+    for entry in WalkDir::new(folder).into_iter().filter_entry(wanted) {
+        match entry {
+            Ok(entry) if !entry.file_type().is_dir() => found.note(entry.path()),
+            Ok(_) => {}
+            Err(error) => found.unread.push(walk_failure(folder, error)),
+        }
+    }
+    found.names.retain(|_, lies| lies.ledger || lies.redo || lies.lock || !lies.leftovers.is_empty());
+    Ok(found)
+}
+
+impl Found {
+    fn note(&mut self, path: &Path) {
+        let staged = path.file_name().and_then(files::staged_for);
+        let file = staged.map(|name| path.with_file_name(name));
+        let Some((name, ending)) = split(file.as_deref().unwrap_or(path)) else { return };
+        let lies = self.names.entry(name).or_default();
+        match staged {
+            Some(_) => lies.leftovers.push(path.into()),
+            None => lies.note(ending),
+        }
+    }
+}
+
+/// A holding's name and the ending of one of its files.
+fn split(path: &Path) -> Option<(PathBuf, &str)> {
+    let ending = path.extension()?.to_str()?;
+    ["held", "ledger", "redo", "lock", "sha256"]
+        .contains(&ending)
+        .then(|| (path.with_extension(""), ending))
+        .filter(|(name, _)| name.file_name().is_some())
+}
+
+fn walk_failure(folder: &Path, error: walkdir::Error) -> Failure {
+    let path = error.path().unwrap_or(folder).to_path_buf();
+    Failure::machine(&path, "walk")(error.into())
+}

@@ -1,0 +1,207 @@
+//! What the command takes apart by itself, from a million made-up and damaged inputs: an answer or an error, never a panic,
+//! and no more memory than the input calls for.
+#![allow(dead_code)]
+#[path = "../src/args.rs"]
+mod args;
+#[path = "../src/digest.rs"]
+mod digest;
+#[path = "../src/failure.rs"]
+mod failure;
+#[path = "../src/ledger.rs"]
+mod ledger;
+#[path = "../src/pixels.rs"]
+mod pixels;
+#[path = "../src/redo.rs"]
+mod redo;
+#[path = "../src/refusals.rs"]
+mod refusals;
+#[path = "../src/sums.rs"]
+mod sums;
+
+use digest::{Digest, State};
+use std::alloc::{GlobalAlloc, Layout, System};
+use std::cell::Cell;
+use std::path::Path;
+
+/// For each parser.
+const INPUTS: u64 = 200_000;
+
+/// Notes the largest piece of memory that this thread asked for.
+struct Noting;
+
+thread_local! {
+    static LARGEST: Cell<usize> = const { Cell::new(0) };
+}
+
+fn note(size: usize) {
+    let _ = LARGEST.try_with(|largest| largest.set(largest.get().max(size)));
+}
+
+// SAFETY: every call is handed on to the system's allocator as it is.
+unsafe impl GlobalAlloc for Noting {
+    unsafe fn alloc(&self, layout: Layout) -> *mut u8 {
+        note(layout.size());
+        unsafe { System.alloc(layout) }
+    }
+
+    unsafe fn dealloc(&self, at: *mut u8, layout: Layout) {
+        unsafe { System.dealloc(at, layout) }
+    }
+
+    unsafe fn realloc(&self, at: *mut u8, layout: Layout, size: usize) -> *mut u8 {
+        note(size);
+        unsafe { System.realloc(at, layout, size) }
+    }
+}
+
+#[global_allocator]
+static ALLOCATOR: Noting = Noting;
+
+/// The numbers of xorshift.
+struct Random(u64);
+
+impl Random {
+    fn next(&mut self) -> u64 {
+        self.0 ^= self.0 << 13;
+        self.0 ^= self.0 >> 7;
+        self.0 ^= self.0 << 17;
+        self.0
+    }
+
+    fn below(&mut self, limit: usize) -> usize {
+        (self.next() % limit.max(1) as u64) as usize
+    }
+}
+
+/// Texts that parsers stumble over.
+const WORDS: [&[u8]; 14] = [
+    b"18446744073709551615",
+    b"18446744073709551616",
+    b"-1",
+    b"99999999999999999999999999",
+    b"0",
+    b"\n",
+    b"\n\n",
+    b" ",
+    b"-",
+    b"\xff\xfe",
+    b"\\",
+    b"'",
+    b"(",
+    b"\xf0\x9f\x92\xa9",
+];
+
+/// One sample with up to five damages, or bytes out of nothing.
+fn damaged(random: &mut Random, samples: &[Vec<u8>]) -> Vec<u8> {
+    if random.below(10) == 0 {
+        return (0..random.below(300)).map(|_| random.next() as u8).collect();
+    }
+    let mut bytes = samples[random.below(samples.len())].clone();
+    for _ in 0..random.below(6) {
+        damage(random, &mut bytes);
+    }
+    bytes
+}
+
+fn damage(random: &mut Random, bytes: &mut Vec<u8>) {
+    let (place, end) = (random.below(bytes.len() + 1), random.below(bytes.len() + 1));
+    match random.below(6) {
+        0 => bytes.truncate(place),
+        1 => drop(bytes.drain(place.min(end)..place.max(end))),
+        2 => drop(bytes.splice(place..place, WORDS[random.below(WORDS.len())].iter().copied())),
+        3 => bytes.extend_from_within(place..),
+        4 => drop(
+            bytes.splice(place..(place + random.below(12)).min(bytes.len()), WORDS[random.below(5)].iter().copied()),
+        ),
+        _ => {
+            if let Some(byte) = bytes.get_mut(place) {
+                *byte ^= 1 << random.below(8);
+            }
+        }
+    }
+}
+
+/// Gives every input to a parser, which says whether it took it. Some must be taken and some refused.
+fn feed(seed: u64, samples: &[Vec<u8>], parse: impl Fn(&[u8]) -> bool) {
+    let mut random = Random(seed);
+    let mut taken = 0;
+    for number in 0..INPUTS {
+        let input = damaged(&mut random, samples);
+        LARGEST.set(0);
+        taken += u64::from(parse(&input));
+        let (largest, most) = (LARGEST.get(), 8 * input.len() + 4096);
+        assert!(largest <= most, "input {number} of {} bytes made one piece of {largest}", input.len());
+    }
+    assert!(taken > INPUTS / 100 && taken < INPUTS, "{taken} taken");
+}
+
+fn text(bytes: &[u8]) -> String {
+    String::from_utf8_lossy(bytes).into_owned()
+}
+
+#[test]
+fn npy_files() {
+    let counts = |rows, columns| pixels::Counts { rows, columns, pixels: vec![7; (rows * columns) as usize] };
+    let mut samples: Vec<Vec<u8>> = [(1, 4), (4, 4), (0, 9), (3, 1)].map(|(r, c)| pixels::npy(&counts(r, c))).to_vec();
+    let long =
+        b"\x93NUMPY\x02\x00\x40\x00\x00\x00{'descr': '|u1', 'fortran_order': False, 'shape': (2, 2), }     \n1234";
+    samples.push(long.to_vec());
+    feed(1, &samples, |bytes| pixels::from_npy(Path::new("a.npy"), bytes).is_ok());
+}
+
+#[test]
+fn records() {
+    let digest = |bytes: &[u8]| Some(Digest::of(bytes));
+    let follows = State { held: None, ledger: digest(b"old") };
+    let makes = State { held: digest(b"frame"), ledger: digest(b"new") };
+    let change =
+        redo::Record { follows, makes, held: Some(b"frame"), ledger: Some(b"new"), sums: Some(b"sums"), into: None };
+    let removal = redo::Record::of_removal(makes, Some("bin/a".into()));
+    let samples = [change, removal].map(|record| {
+        let mut bytes = Vec::new();
+        let collect = |parts: &[&[u8]]| {
+            bytes = parts.concat();
+            Ok(())
+        };
+        record.write(collect).unwrap();
+        bytes
+    });
+    // A record with a wrong sum is refused for that, so most get the right one again.
+    let signed = |bytes: &[u8]| [bytes, &Digest::of(bytes).sha256].concat();
+    feed(2, &samples, |bytes| {
+        let body = &bytes[..bytes.len().saturating_sub(32)];
+        redo::parse(bytes).is_some() | redo::parse(&signed(body)).is_some() | redo::parse(&signed(bytes)).is_some()
+    });
+}
+
+#[test]
+fn sums_files() {
+    let (held, ledger) = (Path::new("a\\b.held"), Path::new("a\\b.ledger"));
+    let notes = sums::frame_note(&[9; 32], Path::new("frame.sfrm"));
+    let samples =
+        [notes, Vec::new()].map(|notes| sums::Sums { held: [1; 32], ledger: [2; 32], notes }.bytes(held, ledger));
+    feed(3, &samples, |bytes| {
+        sums::noted_frame(bytes);
+        sums::Sums::parse(bytes, held, ledger).is_some()
+    });
+}
+
+#[test]
+fn dates_forms_and_pixels() {
+    let samples = ["2031-11-02", "0001-01-01", "9999-99-99", "1", "1+2", "4", "2577", "5,17", "18446744073709551615,1"];
+    let samples = samples.map(|word| word.as_bytes().to_vec());
+    feed(4, &samples, |bytes| {
+        let word = text(bytes);
+        args::parse_date(&word).is_ok() | args::parse_form(&word).is_ok() | args::parse_place(&word).is_ok()
+    });
+}
+
+#[test]
+fn listings() {
+    let listing = "line 1 keep 2031-11-02\nline 2 correct 17 300 301 withdrawn\nline 3 withdraw\nstanding 1\n";
+    feed(5, &[listing.as_bytes().to_vec()], |bytes| {
+        let listing = text(bytes);
+        ledger::last_standing(&listing);
+        ledger::keep_line(&listing).is_some()
+    });
+}
