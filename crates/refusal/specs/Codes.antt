@@ -5,7 +5,7 @@ use Rattle.refusal.specs.declared.Refusal.the-variants as R
 use Rattle.refusal.specs.declared.Code.{Code}
 
 abbrev pub refusalNumber : Refusal → ℕ
--- under 240 bytes, or under the header's length; mar: under one record; d*TREK: under the header's length
+-- fewer than 240 bytes, or than the header takes (d*TREK: the latter alone); mar: not one whole record
 refusalNumber R.HeaderTruncated = 1
 -- a name of lines 0 to 2
 refusalNumber R.WrongName = 2
@@ -30,7 +30,7 @@ refusalNumber R.PaddingNotZero = 12
 refusalNumber (R.BadEntry entry) = 13
 -- tables not used up, or entries wanting
 refusalNumber R.CountMismatch = 14
--- a baseline sum above 4,294,967,295
+-- a pixel and the baseline do not fit 32 bits together
 refusalNumber R.SumTooLarge = 15
 -- the header allows no frame of this form
 refusalNumber R.FormUnavailable = 16
@@ -55,7 +55,7 @@ refusalNumber R.BadPlateSize = 28
 refusalNumber R.PlateMismatch = 29
 -- chunks: the underflow buffer is shorter than the entries
 refusalNumber R.UnderflowBufferShort = 30
--- amend: the last standing line is a keep line
+-- amend: what stands last is a keep date
 refusalNumber R.LastIsKeep = 31
 -- d*TREK: the header's start or length; its syntax; a required keyword; a type or compression that is not read
 refusalNumber R.BadHeaderStart = 32
