@@ -1,4 +1,6 @@
 //! The command line.
+use crate::given::{Dated, Names};
+use crate::pixels::Format;
 use clap::{Args, Parser, Subcommand};
 use quayrudder::{Date, Form};
 use std::path::PathBuf;
@@ -18,7 +20,7 @@ pub struct Cli {
     /// Answer in JSON, one object a line
     #[arg(long, global = true)]
     pub json: bool,
-    /// Wait so long for a holding that another process is at work on [default: 10 for whole folders, else without end]
+    /// Wait so long for a holding that another process is at work on [default: 10 for whole folders and lists, else without end]
     #[arg(long, global = true, value_name = "SECONDS")]
     pub wait: Option<u32>,
     #[command(subcommand)]
@@ -28,61 +30,47 @@ pub struct Cli {
 #[derive(Subcommand)]
 pub enum Command {
     /// Say what frames, mar images and d*TREK images are: format, size, form, counts and end, or why they are refused
-    #[command(after_help = "Example:\n  quayrudder info lysozyme_01_0001.sfrm")]
-    Info {
-        /// The frames or images
-        #[arg(required = true, value_name = "FRAME")]
-        frames: Vec<PathBuf>,
-    },
+    #[command(after_help = "Examples:\n  quayrudder info lysozyme_01_0001.sfrm\n  quayrudder info --below frames")]
+    Info(Info),
     /// Write the counts of a frame or image as .npy, .raw (32 bits, least significant byte first) or .pgm (16 bits)
-    #[command(after_help = "Example:\n  quayrudder expand lysozyme_01_0001.sfrm -o counts.npy")]
+    #[command(after_help = "Examples:\n  quayrudder expand lysozyme_01_0001.sfrm -o counts.npy\n  \
+                            quayrudder expand --below frames --as npy -o counts")]
     Expand(Expand),
     /// Make a picture of a frame or image to look at
-    #[command(after_help = "Example:\n  quayrudder view lysozyme_01_0001.sfrm -o look.png --log")]
+    #[command(after_help = "Examples:\n  quayrudder view lysozyme_01_0001.sfrm -o look.png --log\n  \
+                            quayrudder view --below frames -o pictures --log")]
     View(View),
     /// Write a frame of FORMAT 100 from a header, counts and a form
     #[command(
         after_help = "Example:\n  quayrudder write --header old.sfrm --pixels counts.npy --form 1+1 -o new.sfrm"
     )]
     Write(Write),
-    /// Open a frame: make NAME.held and an empty NAME.ledger
-    #[command(after_help = "Example:\n  quayrudder open lysozyme_01_0001.sfrm --form 1+2 --room 4096 -o lyso1")]
+    /// Open frames: make NAME.held and an empty NAME.ledger of each
+    #[command(after_help = "Examples:\n  quayrudder open lysozyme_01_0001.sfrm --form 1+2 --room 4096 -o lyso1\n  \
+                            quayrudder open --below frames --form 1+2 -o archive")]
     Open(Open),
-    /// Correct the count of one pixel of a holding
-    #[command(after_help = "Examples:\n  quayrudder correct lyso1 5,17 300\n  quayrudder correct lyso1 2577 300")]
-    Correct {
-        /// The holding
-        name: PathBuf,
-        /// The pixel's number, from 0 row by row, or its ROW,COLUMN, both from 0
-        #[arg(value_name = "PIXEL|ROW,COLUMN", value_parser = parse_place)]
-        pixel: Place,
-        /// The new count, 0 to 4294967295
-        count: u32,
-    },
-    /// Keep a holding until this day; an earlier one than before needs --shorten
-    #[command(after_help = "Examples:\n  quayrudder keep lyso1 2031-11-02\n  \
-                            quayrudder keep lyso1 2029-01-01 --shorten")]
-    Keep {
-        /// The holding
-        name: PathBuf,
-        /// The last day on which it must be kept
-        #[arg(value_name = "YYYY-MM-DD", value_parser = parse_date)]
-        date: Date,
-        /// Take a day before the one that stands, or before today
-        #[arg(long)]
-        shorten: bool,
-    },
+    /// Correct the count of one pixel of a holding, or those of a whole table
+    #[command(after_help = "Examples:\n  quayrudder correct lyso1 5,17 300\n  quayrudder correct lyso1 2577 300\n  \
+                            quayrudder correct --from bad_pixels.csv")]
+    Correct(Correct),
+    /// Keep holdings until this day, the last word; an earlier one than before needs --shorten
+    #[command(
+        override_usage = "quayrudder keep [OPTIONS] [NAME]... <YYYY-MM-DD>",
+        after_help = "Examples:\n  quayrudder keep lyso1 2031-11-02\n  quayrudder keep lyso1 lyso2 2031-11-02\n  \
+                      quayrudder keep lyso1 2029-01-01 --shorten\n  quayrudder keep --below archive 2031-11-02"
+    )]
+    Keep(Keep),
     /// Take back the last correction or keep date that stands
-    #[command(after_help = "Example:\n  quayrudder withdraw lyso1")]
+    #[command(after_help = "Examples:\n  quayrudder withdraw lyso1\n  quayrudder withdraw --names-from wrong.txt")]
     Withdraw {
-        /// The holding
-        name: PathBuf,
+        #[command(flatten)]
+        names: Names,
     },
-    /// List a holding's ledger
-    #[command(after_help = "Example:\n  quayrudder list lyso1")]
+    /// List the ledgers of holdings
+    #[command(after_help = "Examples:\n  quayrudder list lyso1\n  quayrudder list --below archive")]
     List {
-        /// The holding
-        name: PathBuf,
+        #[command(flatten)]
+        names: Names,
     },
     /// May a holding be purged on this day? Exit status 0 for yes, 1 for no
     #[command(after_help = "Example:\n  quayrudder may-purge lyso1 2031-11-03 && echo yes")]
@@ -105,12 +93,21 @@ pub enum Command {
 }
 
 #[derive(Args)]
+pub struct Info {
+    #[command(flatten)]
+    pub names: Names,
+}
+
+#[derive(Args)]
 pub struct Expand {
-    /// The frame or image
-    pub frame: PathBuf,
-    /// The file to write; its ending says how: .npy, .raw or .pgm
+    #[command(flatten)]
+    pub names: Names,
+    /// The file to write, whose ending says how: .npy, .raw or .pgm; for several frames the folder for their files
     #[arg(short, long, value_name = "OUT")]
     pub output: PathBuf,
+    /// How to write the counts, whatever the file's ending
+    #[arg(long = "as", value_enum, value_name = "FORMAT")]
+    pub format: Option<Format>,
     /// Write counts above 65535 as 65535 (.pgm)
     #[arg(long)]
     pub clip: bool,
@@ -121,9 +118,9 @@ pub struct Expand {
 
 #[derive(Args)]
 pub struct View {
-    /// The frame or image
-    pub frame: PathBuf,
-    /// The picture to write, a .png
+    #[command(flatten)]
+    pub names: Names,
+    /// The picture to write, a .png; for several frames the folder for their pictures
     #[arg(short, long, value_name = "OUT.png")]
     pub output: PathBuf,
     /// The count shown black [default: that of the darkest 0.5 %]
@@ -161,24 +158,49 @@ pub struct Write {
 
 #[derive(Args)]
 pub struct Open {
-    /// The frame
-    pub frame: PathBuf,
+    #[command(flatten)]
+    pub names: Names,
     /// Bytes per pixel, and +1 or +2 for the baseline subtracted with underflow entries of so many bytes
     #[arg(long, value_parser = parse_form)]
     pub form: Form,
-    /// Bytes for the frame to grow by: a correction takes at most 48
+    /// Bytes for the frame to grow by, which saves copies later: a correction takes at most 48, and gets them anyway
     #[arg(long, value_name = "BYTES", default_value_t = 4096)]
     pub room: u32,
-    /// The name of the holding
-    #[arg(short, long, value_name = "NAME")]
+    /// The name of the holding; for several frames the folder for their holdings, named as the frames are
+    #[arg(short, long, value_name = "NAME|DIR")]
     pub output: PathBuf,
 }
 
 #[derive(Args)]
+pub struct Correct {
+    /// The holding
+    #[arg(required_unless_present = "from")]
+    pub name: Option<PathBuf>,
+    /// The pixel's number, from 0 row by row, or its ROW,COLUMN, both from 0
+    #[arg(value_name = "PIXEL|ROW,COLUMN", value_parser = parse_place, required_unless_present = "from")]
+    pub pixel: Option<Place>,
+    /// The new count, 0 to 4294967295
+    #[arg(required_unless_present = "from")]
+    pub count: Option<u32>,
+    /// Make the corrections of a table instead, - for standard input: CSV with a heading, or one JSON object a line, with
+    /// holding, pixel or row and column, and count
+    #[arg(long, value_name = "FILE", conflicts_with_all = ["name", "pixel", "count"])]
+    pub from: Option<PathBuf>,
+}
+
+#[derive(Args)]
+pub struct Keep {
+    #[command(flatten)]
+    pub dated: Dated,
+    /// Take a day before the one that stands, or before today
+    #[arg(long)]
+    pub shorten: bool,
+}
+
+#[derive(Args)]
 pub struct Verify {
-    /// The holdings, or folders with holdings in them
-    #[arg(required = true, value_name = "NAME|DIR")]
-    pub names: Vec<PathBuf>,
+    #[command(flatten)]
+    pub names: Names,
     /// Make the sums of holdings that agree and have none
     #[arg(long)]
     pub seal: bool,

@@ -173,6 +173,12 @@ pub fn make_folder(path: &Path, like: &Path) -> Outcome<()> {
     }
 }
 
+/// Makes a folder for outputs, as strict as the one that it comes to lie in.
+pub fn make_folder_below(path: &Path) -> Outcome<()> {
+    let there = path.ancestors().find(|ancestor| ancestor.is_dir());
+    make_folder(path, there.unwrap_or(Path::new(".")))
+}
+
 /// Removes a file that may be missing already.
 pub fn remove(path: &Path) -> Outcome<()> {
     match fs::remove_file(path) {

@@ -1,15 +1,18 @@
 //! The commands on frames, mar images and d*TREK images: info, expand, view; and on frames alone: write.
-use crate::args::{Expand, View, Write};
+use crate::args::{Expand, Info, View, Write};
+use crate::batch::Said;
 use crate::dtrek;
 use crate::failure::{shown, Failure, Outcome, Refused};
 use crate::files;
 use crate::mar;
+use crate::names;
 use crate::output::Output;
-use crate::pixels::{self, Counts, Given};
+use crate::outputs::Outputs;
+use crate::pixels::{self, Counts, Format, Given};
 use crate::refusals::sentence;
 use quayrudder::{Form, HeaderAnswer, ReadAnswer};
 use serde_json::{json, Value};
-use std::path::{Path, PathBuf};
+use std::path::Path;
 
 /// A frame or an image that the library accepts.
 struct Frame {
@@ -117,25 +120,19 @@ fn counts(file: &Path) -> Outcome<Counts> {
     }
 }
 
-pub fn info(output: &mut Output, frames: &[PathBuf]) -> Outcome<()> {
-    for file in frames {
-        match read(file) {
-            Ok(frame) => say_info(output, file, &frame)?,
-            Err(failure) => output.failed(&failure)?,
-        }
-    }
-    Ok(())
+pub fn info(output: &mut Output, asked: &Info) -> Outcome<()> {
+    let found = names::frames(&asked.names, None)?;
+    found.each(output, "frames", &["accepted"], |item| read(&item.path).map(|frame| said_of(&item.path, &frame)))
 }
 
-fn say_info(output: &mut Output, file: &Path, frame: &Frame) -> Outcome<()> {
+fn said_of(file: &Path, frame: &Frame) -> Said {
     let Frame { end, length, .. } = *frame;
-    match &frame.kind {
-        Kind::Bruker(header) => {
-            output.say(&info_text(file, header, end, length), &info_value(file, header, end, length))
-        }
-        Kind::Mar(entries) => output.say(&entries.text(file, end, length), &entries.value(file, end, length)),
-        Kind::Dtrek(header) => output.say(&header.text(file, end, length), &header.value(file, end, length)),
-    }
+    let (text, value) = match &frame.kind {
+        Kind::Bruker(header) => (info_text(file, header, end, length), info_value(file, header, end, length)),
+        Kind::Mar(entries) => (entries.text(file, end, length), entries.value(file, end, length)),
+        Kind::Dtrek(header) => (header.text(file, end, length), header.value(file, end, length)),
+    };
+    Said { text, value, counted: "accepted" }
 }
 
 /// A form as it is asked for: `2`, or `1+2`.
@@ -180,40 +177,52 @@ fn ending(path: &Path) -> &str {
 }
 
 pub fn expand(output: &mut Output, asked: &Expand) -> Outcome<()> {
-    let ending = ending(&asked.output);
-    if !["npy", "raw", "pgm"].contains(&ending) {
-        let why = format!("`{}` must end in .npy, .raw or .pgm", shown(&asked.output));
-        return Err(Failure::Usage(why));
-    }
-    let counts = counts(&asked.frame)?;
-    let bytes = match ending {
-        "npy" => pixels::npy(&counts),
-        "raw" => pixels::raw(&counts.pixels),
-        _ => pixels::pgm(&asked.output, &counts, asked.clip)?,
-    };
-    files::output(&asked.output, &bytes, asked.force)?;
-    let (rows, columns) = (counts.rows, counts.columns);
-    let text = format!("{}: {rows} rows, {columns} columns", shown(&asked.output));
-    output.say(&text, &json!({"file": shown(&asked.output), "rows": rows, "columns": columns}))
+    let format = format(asked)?;
+    let found = names::frames(&asked.names, Some(&asked.output))?;
+    let outputs = Outputs::new(&found, &asked.output, format.ending())?;
+    found.each(output, "frames", &["expanded", "already expanded"], |item| {
+        let file = outputs.of(item)?;
+        let counts = counts(&item.path)?;
+        let bytes = format.bytes(&file, &counts, asked.clip)?;
+        let counted = if outputs.put(&file, &bytes, asked.force)? { "expanded" } else { "already expanded" };
+        let (name, rows, columns) = (shown(&file), counts.rows, counts.columns);
+        let text = format!("{name}: {rows} rows, {columns} columns");
+        Ok(Said { text, value: json!({"file": name, "rows": rows, "columns": columns}), counted })
+    })
+}
+
+/// As --as says, or else as the one file ends.
+fn format(asked: &Expand) -> Outcome<Format> {
+    let by_name = || asked.names.single().and_then(|_| Format::of_ending(ending(&asked.output)));
+    asked.format.or_else(by_name).ok_or_else(|| match asked.names.single() {
+        Some(_) => Failure::Usage(format!("`{}` must end in .npy, .raw or .pgm", shown(&asked.output))),
+        None => Failure::Usage("for many frames say with --as how to write them: npy, raw or pgm".into()),
+    })
 }
 
 pub fn view(output: &mut Output, asked: &View) -> Outcome<()> {
-    if ending(&asked.output) != "png" {
+    if asked.names.single().is_some() && ending(&asked.output) != "png" {
         return Err(Failure::Usage(format!("`{}` must end in .png", shown(&asked.output))));
     }
     if asked.min.zip(asked.max).is_some_and(|(min, max)| min >= max) {
         return Err(Failure::Usage("--min must be below --max".into()));
     }
-    let counts = counts(&asked.frame)?;
-    let (black, white) = pixels::limits(&counts.pixels, asked.min, asked.max);
-    let picture = pixels::png(&asked.output, &counts, (black, white), asked.log)?;
-    files::output(&asked.output, &picture, asked.force)?;
-    let name = shown(&asked.output);
-    let text = format!("{name}: {} x {} pixels, black {black}, white {white}", counts.columns, counts.rows);
-    let value = json!({
-        "file": name, "width": counts.columns, "height": counts.rows, "black": black, "white": white, "log": asked.log,
-    });
-    output.say(&text, &value)
+    let found = names::frames(&asked.names, Some(&asked.output))?;
+    let outputs = Outputs::new(&found, &asked.output, "png")?;
+    found.each(output, "frames", &["viewed", "already viewed"], |item| {
+        let file = outputs.of(item)?;
+        let counts = counts(&item.path)?;
+        let (black, white) = pixels::limits(&counts.pixels, asked.min, asked.max);
+        let picture = pixels::png(&file, &counts, (black, white), asked.log)?;
+        let counted = if outputs.put(&file, &picture, asked.force)? { "viewed" } else { "already viewed" };
+        let name = shown(&file);
+        let text = format!("{name}: {} x {} pixels, black {black}, white {white}", counts.columns, counts.rows);
+        let value = json!({
+            "file": name, "width": counts.columns, "height": counts.rows, "black": black, "white": white,
+            "log": asked.log,
+        });
+        Ok(Said { text, value, counted })
+    })
 }
 
 pub fn write(output: &mut Output, asked: &Write) -> Outcome<()> {

@@ -1,93 +1,89 @@
-//! The commands on one holding: open, correct, keep, withdraw, list, may-purge.
-use crate::args::{Open, Place};
+//! The commands on holdings that touch one line: keep, withdraw, list, may-purge.
+use crate::args::Keep;
+use crate::batch::Said;
 use crate::clock::{self, date_text};
-use crate::digest::{Digest, State};
 use crate::failure::{shown, Failure, Outcome, Refused, NO};
-use crate::files;
-use crate::frames;
+use crate::given::Names;
 use crate::holding::{Change, Holding};
 use crate::ledger::{self, Entry, Lent, Line};
+use crate::names::{self, Doubled, Item};
 use crate::output::Output;
 use crate::refusals::sentence;
-use crate::sums;
+use crate::room;
 use quayrudder::Date;
 use serde_json::{json, Value};
+use std::path::Path;
 use std::time::Duration;
 
-pub fn open(output: &mut Output, asked: &Open, wait: Option<Duration>) -> Outcome<()> {
-    let holding = Holding::named(&asked.output, wait)?;
-    let frame = files::read(&asked.frame)?;
-    let header = frames::header(&asked.frame, &frame)?;
-    let mut pixels = vec![0; frames::pixel_count(&header)];
-    let mut held = vec![0; frames::most_bytes(&header)];
-    let answer = quayrudder::open(&frame, &mut pixels, asked.form, &mut held);
-    if answer.refusal != 0 {
-        return Err(frames::refused(&asked.frame, &frame, answer.refusal, answer.place, answer.column));
+/// A question may be asked twice.
+const LISTED: &str = "listed";
+
+/// Works on the holdings that are named or lie below folders. One that is named twice is not changed: an answer would
+/// depend on which came first.
+fn each(
+    output: &mut Output,
+    asked: &Names,
+    wait: Option<Duration>,
+    done: &[&'static str],
+    work: impl Fn(&Holding, bool) -> Outcome<Said> + Sync,
+) -> Outcome<()> {
+    let found = names::holdings(asked, |_| false)?;
+    let wait = found.wait(wait);
+    let name = |item: &Item| Holding::named(&item.path, None).map_or(item.path.clone(), |holding| holding.name);
+    let doubled = match done {
+        [LISTED] => Doubled::default(),
+        _ => found.doubled(name, "it is named more than once in this batch. Name it once"),
+    };
+    found.each(output, "holdings", done, |item| {
+        let holding = Holding::named(&item.path, wait)?;
+        doubled.must_not_have(item, &holding.name)?;
+        work(&holding, found.many)
+    })
+}
+
+pub fn keep(output: &mut Output, asked: &Keep, wait: Option<Duration>) -> Outcome<()> {
+    let (names, date) = (&asked.dated.names, asked.dated.date);
+    if names.single().is_none() {
+        must_be_a_day(date, asked.shorten)?;
     }
-    held.resize(answer.length as usize + asked.room as usize, 0);
-    let owned = holding.create()?;
-    let notes = sums::frame_note(&Digest::of(&frame).sha256, &asked.frame);
-    let change = Change { held: Some(&held), ledger: Some(&[]), notes: Some(&notes) };
-    owned.commit(State::default(), &change).inspect_err(|_| owned.leave_no_lock())?;
-    let (name, form) = (shown(&holding.name), frames::form_text(asked.form.width, asked.form.underflow));
-    let (rows, columns, room) = (answer.rows, answer.columns, asked.room);
-    let text = format!(
-        "{name}: {rows} rows, {columns} columns held in form {form}, {} bytes and room for {room}",
-        answer.length
-    );
-    let value = json!({
-        "name": name, "rows": rows, "columns": columns, "width": asked.form.width,
-        "underflow_width": asked.form.underflow, "bytes": answer.length, "room": room,
-    });
-    output.say(&text, &value)
+    each(output, names, wait, &["kept", "already kept"], |holding, many| kept(holding, date, asked.shorten, many))
 }
 
-pub fn correct(output: &mut Output, holding: &Holding, place: Place, count: u32) -> Outcome<()> {
-    let (owned, mut found) = holding.change()?;
-    let mut lent = Lent::new(std::mem::take(&mut found.ledger), 1);
-    let pixel = pixel_number(place, &found.held);
-    let answer = quayrudder::correct(&mut found.held, &mut lent.bytes, lent.lines, pixel, count);
-    accepted(holding, answer.refusal, &lent.bytes)?;
-    let ledger = lent.used(answer.lines);
-    owned.commit(found.state, &Change { held: Some(&found.held), ledger: Some(ledger), notes: found.notes() })?;
-    let Some(line) = ledger::backwards(&ledger::listing(ledger)).next() else { return Ok(()) };
-    let name = shown(&holding.name);
-    let text = format!("{name}: line {}: {}", line.number, line_text(&line));
-    output.say(&text, &json!({"name": name, "appended": line_value(&line)}))
-}
-
-/// The number of the pixel meant. A column past the last is no pixel, and neither is the largest number.
-fn pixel_number(place: Place, held: &[u8]) -> u64 {
-    match place {
-        Place::Pixel(number) => number,
-        Place::At { row, column } => {
-            let columns = u64::from(quayrudder::header(held).columns);
-            let number = row.checked_mul(columns).and_then(|start| start.checked_add(column));
-            number.filter(|_| column < columns).unwrap_or(u64::MAX)
-        }
+/// What every holding would answer alike is answered once: a ledger of no lines answers 26 for a calendar date.
+fn must_be_a_day(date: Date, shorten: bool) -> Outcome<()> {
+    let name = date_text(date);
+    match quayrudder::may_purge(&[], 0, date) {
+        26 if shorten => Ok(()),
+        26 => must_not_shorten(Path::new(&name), date, None),
+        number => Err(Failure::refused(Path::new(&name), number)),
     }
 }
 
-pub fn keep(output: &mut Output, holding: &Holding, date: Date, shorten: bool) -> Outcome<()> {
+fn kept(holding: &Holding, date: Date, shorten: bool, many: bool) -> Outcome<Said> {
     let (owned, found) = holding.change()?;
     let mut lent = Lent::new(found.ledger.clone(), 1);
     let answer = quayrudder::keep(&mut lent.bytes, lent.lines, date);
     accepted(holding, answer.refusal, &lent.bytes)?;
     let former = ledger::keep_date(&ledger::listing(&found.ledger));
+    let (name, until) = (shown(&holding.name), date_text(date));
+    if many && former.as_ref() == Some(&until) {
+        let text = format!("{name}: already kept until {until}");
+        return Ok(Said { text, value: json!({"name": name, "already_kept": until}), counted: "already kept" });
+    }
     if !shorten {
-        must_not_shorten(holding, date, former.as_deref())?;
+        must_not_shorten(&holding.name, date, former.as_deref())?;
     }
     let ledger = lent.used(answer.lines);
     owned.commit(found.state, &Change { ledger: Some(ledger), notes: found.notes(), ..Change::default() })?;
     let was = former.as_ref().map_or("no date before".into(), |former| format!("was {former}"));
-    let (name, line, date) = (shown(&holding.name), answer.lines, date_text(date));
-    let text = format!("{name}: line {line}: kept until {date} ({was})");
-    let appended = json!({"line": line, "kind": "keep", "date": date, "withdrawn": false});
-    output.say(&text, &json!({"name": name, "appended": appended, "former": former}))
+    let line = answer.lines;
+    let text = format!("{name}: line {line}: kept until {until} ({was})");
+    let appended = json!({"line": line, "kind": "keep", "date": until, "withdrawn": false});
+    Ok(Said { text, value: json!({"name": name, "appended": appended, "former": former}), counted: "kept" })
 }
 
 /// A slip in the date must not let a frame go early. Dates of this form are in the order of their texts.
-fn must_not_shorten(holding: &Holding, date: Date, former: Option<&str>) -> Outcome<()> {
+fn must_not_shorten(name: &Path, date: Date, former: Option<&str>) -> Outcome<()> {
     let (date, today) = (date_text(date), date_text(clock::today()));
     let than = match former {
         Some(former) if date.as_str() < former => format!("{former}, until which it is kept"),
@@ -95,25 +91,32 @@ fn must_not_shorten(holding: &Holding, date: Date, former: Option<&str>) -> Outc
         _ => return Ok(()),
     };
     let why = format!("{date} is before {than}. Nothing was changed. If that is meant, give --shorten");
-    Err(Failure::declined(&holding.name, why))
+    Err(Failure::declined(name, why))
 }
 
-pub fn withdraw(output: &mut Output, holding: &Holding) -> Outcome<()> {
+pub fn withdraw(output: &mut Output, asked: &Names, wait: Option<Duration>) -> Outcome<()> {
+    each(output, asked, wait, &["withdrawn"], |holding, _| withdrawn(holding))
+}
+
+fn withdrawn(holding: &Holding) -> Outcome<Said> {
     let (owned, mut found) = holding.change()?;
     let mut lent = Lent::new(found.ledger.clone(), 1);
-    let answer = quayrudder::withdraw(&mut found.held, &mut lent.bytes, lent.lines);
+    let answer = room::lend(&mut found.held, |held| quayrudder::withdraw(held, &mut lent.bytes, lent.lines));
     accepted(holding, answer.refusal, &lent.bytes)?;
     let ledger = lent.used(answer.lines);
     owned.commit(found.state, &Change { held: Some(&found.held), ledger: Some(ledger), notes: found.notes() })?;
-    let Some(taken) = ledger::last_standing(&ledger::listing(&found.ledger)) else { return Ok(()) };
     let (name, now) = (shown(&holding.name), ledger::keep_date(&ledger::listing(ledger)));
-    let mut text = format!("{name}: line {} withdraws line {}: {}", answer.lines, taken.number, line_text(&taken));
-    let mut value = json!({"name": name, "line": answer.lines, "withdraws": line_value(&taken)});
-    if let Entry::Keep { .. } = taken.entry {
-        text += &now.as_ref().map_or("; no keep date stands now".into(), |now| format!("; now kept until {now}"));
-        value["kept_until"] = json!(now);
+    let mut text = format!("{name}: line {}", answer.lines);
+    let mut value = json!({"name": name, "line": answer.lines});
+    if let Some(taken) = ledger::last_standing(&ledger::listing(&found.ledger)) {
+        text += &format!(" withdraws line {}: {}", taken.number, line_text(&taken));
+        value["withdraws"] = line_value(&taken);
+        if let Entry::Keep { .. } = taken.entry {
+            text += &now.as_ref().map_or("; no keep date stands now".into(), |now| format!("; now kept until {now}"));
+            value["kept_until"] = json!(now);
+        }
     }
-    output.say(&text, &value)
+    Ok(Said { text, value, counted: "withdrawn" })
 }
 
 /// A refusal names the file that it is about.
@@ -128,7 +131,7 @@ pub fn accepted(holding: &Holding, refusal: u32, ledger: &[u8]) -> Outcome<()> {
     Err(Failure::Refused(Refused { file, number: refusal, place: 0, column: 0, note, said }))
 }
 
-fn line_text(line: &Line) -> String {
+pub fn line_text(line: &Line) -> String {
     match &line.entry {
         Entry::Correct { pixel, old, new } => format!("pixel {pixel} corrected from {old} to {new}"),
         Entry::Keep { date } => format!("kept until {date}"),
@@ -136,7 +139,7 @@ fn line_text(line: &Line) -> String {
     }
 }
 
-fn line_value(line: &Line) -> Value {
+pub fn line_value(line: &Line) -> Value {
     let (number, withdrawn) = (line.number, line.withdrawn);
     match &line.entry {
         Entry::Correct { pixel, old, new } => json!({
@@ -147,15 +150,23 @@ fn line_value(line: &Line) -> Value {
     }
 }
 
-pub fn list(output: &mut Output, holding: &Holding) -> Outcome<()> {
+pub fn list(output: &mut Output, asked: &Names, wait: Option<Duration>) -> Outcome<()> {
+    each(output, asked, wait, &[LISTED], listed)
+}
+
+/// The listing; that of one of many stands below its name.
+fn listed(holding: &Holding, many: bool) -> Outcome<Said> {
     let bytes = holding.ask(Holding::read_ledger)?;
     accepted(holding, ledger::refusal(&bytes), &bytes)?;
-    let listing = ledger::listing(&bytes);
+    let (name, listing) = (shown(&holding.name), ledger::listing(&bytes));
     let mut lines: Vec<Line> = ledger::backwards(&listing).collect();
     lines.reverse();
     let standing = lines.iter().filter(|line| !line.withdrawn && line.entry != Entry::Withdraw).count();
     let values: Vec<Value> = lines.iter().map(line_value).collect();
-    output.say(&listing, &json!({"name": shown(&holding.name), "lines": values, "standing": standing}))
+    let value = json!({"name": name, "lines": values, "standing": standing});
+    let indented: String = listing.lines().map(|line| format!("\n  {line}")).collect();
+    let text = if many { format!("{name}:{indented}") } else { listing };
+    Ok(Said { text, value, counted: LISTED })
 }
 
 pub fn may_purge(output: &mut Output, holding: &Holding, day: Date) -> Outcome<()> {

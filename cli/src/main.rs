@@ -2,25 +2,34 @@
 #![forbid(unsafe_code)]
 
 mod args;
+mod batch;
 mod clock;
+mod corrections;
 mod digest;
 mod dtrek;
 mod failure;
 mod files;
 mod frames;
+mod given;
 mod holding;
 mod holdings;
 mod ledger;
 mod locks;
 mod mar;
+mod names;
+mod opening;
 mod output;
+mod outputs;
 mod pixels;
 mod purge_log;
 mod redo;
 mod refusals;
 mod removal;
+mod room;
+mod rows;
 mod sums;
 mod sweep;
+mod table;
 mod verify;
 mod walk;
 
@@ -64,17 +73,15 @@ fn misused(error: &clap::Error) -> Failure {
 fn run(output: &mut Output, command: Command, seconds: Option<u32>) -> Outcome<()> {
     let wait = seconds.map(|number| Duration::from_secs(number.into()));
     match command {
-        Command::Info { frames } => frames::info(output, &frames),
+        Command::Info(asked) => frames::info(output, &asked),
         Command::Expand(asked) => frames::expand(output, &asked),
         Command::View(asked) => frames::view(output, &asked),
         Command::Write(asked) => frames::write(output, &asked),
-        Command::Open(asked) => holdings::open(output, &asked, wait),
-        Command::Correct { name, pixel, count } => {
-            holdings::correct(output, &Holding::named(&name, wait)?, pixel, count)
-        }
-        Command::Keep { name, date, shorten } => holdings::keep(output, &Holding::named(&name, wait)?, date, shorten),
-        Command::Withdraw { name } => holdings::withdraw(output, &Holding::named(&name, wait)?),
-        Command::List { name } => holdings::list(output, &Holding::named(&name, wait)?),
+        Command::Open(asked) => opening::open(output, &asked, wait),
+        Command::Correct(asked) => corrections::correct(output, &asked, wait),
+        Command::Keep(asked) => holdings::keep(output, &asked, wait),
+        Command::Withdraw { names } => holdings::withdraw(output, &names, wait),
+        Command::List { names } => holdings::list(output, &names, wait),
         Command::MayPurge { name, day } => holdings::may_purge(output, &Holding::named(&name, wait)?, day),
         Command::Verify(asked) => verify::verify(output, &asked, wait),
         Command::Sweep(asked) => {

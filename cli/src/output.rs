@@ -22,6 +22,15 @@ impl Output {
         writeln!(out, "{line}").and_then(|()| out.flush()).map_err(unread)
     }
 
+    /// Says what is good to know beside the answers.
+    pub fn note(&mut self, text: &str, value: &Value) -> Outcome<()> {
+        if self.json {
+            return self.say("", value);
+        }
+        eprintln!("quayrudder: {text}");
+        Ok(())
+    }
+
     /// Says why something was not done, and keeps its exit status.
     pub fn failed(&mut self, failure: &Failure) -> Outcome<()> {
         self.status(failure.status());

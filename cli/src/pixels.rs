@@ -1,5 +1,6 @@
 //! Counts in files: .npy, raw 32-bit numbers, 16-bit PGM and the grey scale of a picture.
 use crate::failure::{Failure, Outcome};
+use clap::ValueEnum;
 use image::codecs::{png::PngEncoder, pnm};
 use image::{ColorType, ImageEncoder, ImageError};
 use std::io::Error;
@@ -16,6 +17,38 @@ pub struct Counts {
 pub struct Given {
     pub shape: Option<(u64, u64)>,
     pub pixels: Vec<u32>,
+}
+
+/// How counts are written: by the ending of the file's name, or as asked for.
+#[derive(Clone, Copy, Debug, PartialEq, Eq, ValueEnum)]
+pub enum Format {
+    Npy,
+    Raw,
+    Pgm,
+}
+
+impl Format {
+    /// What a file of this format ends in.
+    pub fn ending(self) -> &'static str {
+        match self {
+            Format::Npy => "npy",
+            Format::Raw => "raw",
+            Format::Pgm => "pgm",
+        }
+    }
+
+    pub fn of_ending(ending: &str) -> Option<Format> {
+        Format::value_variants().iter().copied().find(|format| format.ending() == ending)
+    }
+
+    /// The counts as a file of this name has them.
+    pub fn bytes(self, file: &Path, counts: &Counts, clip: bool) -> Outcome<Vec<u8>> {
+        match self {
+            Format::Npy => Ok(npy(counts)),
+            Format::Raw => Ok(raw(&counts.pixels)),
+            Format::Pgm => pgm(file, counts, clip),
+        }
+    }
 }
 
 const NPY_MARK: &[u8; 6] = b"\x93NUMPY";

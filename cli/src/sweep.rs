@@ -94,12 +94,9 @@ impl Job<'_> {
 
     /// The folder that is moved into may lie below the one that is swept.
     fn left_out(&self) -> Outcome<Option<PathBuf>> {
-        let Some(into) = self.into else { return Ok(None) };
-        let (Ok(into), Ok(folder)) = (fs::canonicalize(into), fs::canonicalize(self.folder)) else { return Ok(None) };
-        match into.strip_prefix(&folder) {
-            Ok(rest) if rest == Path::new("") => Err(Failure::Usage("--into must name another folder than DIR".into())),
-            Ok(rest) => Ok(Some(self.folder.join(rest))),
-            Err(_) => Ok(None),
+        match self.into.and_then(|into| walk::inside(into, self.folder)) {
+            Some(into) if into == self.folder => Err(Failure::Usage("--into must name another folder than DIR".into())),
+            inside => Ok(inside),
         }
     }
 

@@ -1,31 +1,17 @@
 //! The check of holdings, by name or all those below a folder: files against their sums, held frame against ledger.
 use crate::args::Verify;
-use crate::failure::{shown, Failure, Outcome, DAMAGED};
-use crate::files;
+use crate::batch;
+use crate::failure::{shown, Outcome, DAMAGED};
 use crate::holding::{Change, Contents, Holding};
 use crate::holdings::accepted;
 use crate::ledger::{self, Lent};
-use crate::output::{progress, Output};
+use crate::names::{self, Item};
+use crate::output::Output;
+use crate::room;
 use crate::sums;
-use crate::walk::{self, Kind};
-use rayon::prelude::*;
 use serde_json::{json, Value};
-use std::path::{Path, PathBuf};
+use std::path::Path;
 use std::time::Duration;
-
-/// So many holdings are checked at once, and then said in order.
-const BATCH: usize = 256;
-/// How long a whole folder waits for one holding.
-const WAIT: Duration = Duration::from_secs(10);
-
-/// What is to be checked.
-#[derive(Default)]
-struct Named {
-    names: Vec<PathBuf>,
-    unread: Vec<Failure>,
-    not_holdings: u64,
-    folders: u64,
-}
 
 #[derive(Default)]
 struct Totals {
@@ -54,19 +40,23 @@ enum Sealed {
 }
 
 pub fn verify(output: &mut Output, asked: &Verify, wait: Option<Duration>) -> Outcome<()> {
-    let named = find(&asked.names)?;
-    let wait = wait.or((named.folders > 0).then_some(WAIT));
-    named.unread.iter().try_for_each(|failure| output.failed(failure))?;
-    let failed = named.unread.len() as u64;
-    let mut totals = Totals { failed, not_holdings: named.not_holdings, ..Totals::default() };
-    let bar = progress(named.names.len() as u64, "holdings");
-    for batch in named.names.chunks(BATCH) {
-        let verdicts: Vec<Outcome<Verdict>> =
-            batch.par_iter().map(|name| verdict(name, asked.seal, wait)).inspect(|_| bar.inc(1)).collect();
-        bar.suspend(|| say_batch(output, batch, &verdicts, &mut totals))?;
-    }
-    bar.finish_and_clear();
-    if named.folders > 0 {
+    let found = names::holdings(&asked.names, is_folder)?;
+    let wait = found.wait(wait);
+    found.unread.iter().try_for_each(|failure| output.failed(failure))?;
+    let failed = found.unread.len() as u64;
+    let mut totals = Totals { failed, not_holdings: found.not_holdings, ..Totals::default() };
+    let work = |item: &Item| verdict(&item.path, asked.seal, wait);
+    batch::run(output, &found.items, "holdings", work, |output, item, verdict| {
+        totals.add(&verdict);
+        match verdict {
+            Ok(verdict) => {
+                let name = Holding::named(&item.path, None)?.name;
+                output.say(&verdict.text(&name), &verdict.value(&name))
+            }
+            Err(failure) => output.failed(&failure),
+        }
+    })?;
+    if found.listed {
         output.say(&totals.text(), &json!({"totals": totals.value()}))
     } else {
         Ok(())
@@ -74,52 +64,8 @@ pub fn verify(output: &mut Output, asked: &Verify, wait: Option<Duration>) -> Ou
 }
 
 /// A folder stands for the holdings below it, unless there is a holding of its name.
-fn find(asked: &[PathBuf]) -> Outcome<Named> {
-    let mut named = Named::default();
-    for path in asked {
-        let is_holding = Holding::named(path, None).is_ok_and(|holding| holding.must_exist().is_ok());
-        match path.is_dir() && !is_holding {
-            true => named.add_folder(path)?,
-            false => named.names.push(path.clone()),
-        }
-    }
-    Ok(named)
-}
-
-impl Named {
-    fn add_folder(&mut self, folder: &Path) -> Outcome<()> {
-        let found = walk::find(folder, None)?;
-        self.folders += 1;
-        self.unread.extend(found.unread);
-        for (name, lies) in found.names {
-            match lies.kind(&name) {
-                // With its ending a name is just this one, whatever it ends in itself.
-                Kind::Holding => self.names.push(files::with_ending(&name, ".ledger")),
-                Kind::Stranger => self.not_holdings += 1,
-                Kind::Rest | Kind::Nothing => {}
-            }
-        }
-        Ok(())
-    }
-}
-
-fn say_batch(
-    output: &mut Output,
-    names: &[PathBuf],
-    verdicts: &[Outcome<Verdict>],
-    totals: &mut Totals,
-) -> Outcome<()> {
-    for (name, verdict) in names.iter().zip(verdicts) {
-        totals.add(verdict);
-        match verdict {
-            Ok(verdict) => {
-                let name = Holding::named(name, None)?.name;
-                output.say(&verdict.text(&name), &verdict.value(&name))?;
-            }
-            Err(failure) => output.failed(failure)?,
-        }
-    }
-    Ok(())
+fn is_folder(path: &Path) -> bool {
+    path.is_dir() && !Holding::named(path, None).is_ok_and(|holding| holding.must_exist().is_ok())
 }
 
 fn verdict(name: &Path, seal: bool, wait: Option<Duration>) -> Outcome<Verdict> {
@@ -165,9 +111,9 @@ fn stands(holding: &Holding, held: &mut [u8]) -> Outcome<()> {
 }
 
 /// Takes back every line that stands, in copies of both files: 22 where held frame and ledger agree.
-fn withdraw_all(held: &mut [u8], lent: &mut Lent) -> u32 {
+fn withdraw_all(held: &mut Vec<u8>, lent: &mut Lent) -> u32 {
     loop {
-        let answer = quayrudder::withdraw(held, &mut lent.bytes, lent.lines);
+        let answer = room::lend(held, |held| quayrudder::withdraw(held, &mut lent.bytes, lent.lines));
         if answer.refusal != 0 {
             return answer.refusal;
         }

@@ -3,7 +3,7 @@ use crate::failure::{Failure, Outcome};
 use crate::files;
 use crate::redo;
 use std::collections::BTreeMap;
-use std::fs::File;
+use std::fs::{self, File};
 use std::io::Read;
 use std::path::{Path, PathBuf};
 use walkdir::{DirEntry, WalkDir};
@@ -68,18 +68,51 @@ fn is_record(path: &Path) -> bool {
 
 /// Walks a folder, but for one that is left out.
 pub fn find(folder: &Path, but: Option<&Path>) -> Outcome<Found> {
-    std::fs::read_dir(folder).map_err(Failure::machine(folder, "read"))?;
     let mut found = Found::default();
     let wanted = |entry: &DirEntry| but.is_none_or(|but| entry.path() != but);
-    for entry in WalkDir::new(folder).into_iter().filter_entry(wanted) {
-        match entry {
-            Ok(entry) if !entry.file_type().is_dir() => found.note(entry.path()),
-            Ok(_) => {}
-            Err(error) => found.unread.push(walk_failure(folder, error)),
-        }
-    }
+    found.unread = walk(folder, wanted, |entry| found.note(entry.path()))?;
     found.names.retain(|_, lies| lies.ledger || lies.redo || lies.lock || !lies.leftovers.is_empty());
     Ok(found)
+}
+
+/// The files below a folder that may be frames, in path order, and what could not be walked.
+pub struct Files {
+    pub files: Vec<PathBuf>,
+    pub unread: Vec<Failure>,
+}
+
+/// Walks a folder, but for one that is left out, for regular files that are neither hidden nor named as a holding's are.
+pub fn frames(folder: &Path, but: Option<&Path>) -> Outcome<Files> {
+    let mut files = Vec::new();
+    let hidden = |entry: &DirEntry| entry.depth() > 0 && entry.file_name().as_encoded_bytes().starts_with(b".");
+    let wanted = |entry: &DirEntry| !hidden(entry) && but.is_none_or(|but| entry.path() != but);
+    let unread = walk(folder, wanted, |entry| {
+        if entry.file_type().is_file() && split(entry.path()).is_none() {
+            files.push(entry.into_path());
+        }
+    })?;
+    files.sort();
+    Ok(Files { files, unread })
+}
+
+/// A folder that lies in another, or is the same, by the other one's path.
+pub fn inside(folder: &Path, outer: &Path) -> Option<PathBuf> {
+    let (folder, whole) = (fs::canonicalize(folder).ok()?, fs::canonicalize(outer).ok()?);
+    folder.strip_prefix(&whole).ok().map(|rest| outer.join(rest))
+}
+
+/// Notes everything below a folder that is no folder, and gives what could not be walked.
+fn walk(folder: &Path, wanted: impl Fn(&DirEntry) -> bool, mut note: impl FnMut(DirEntry)) -> Outcome<Vec<Failure>> {
+    fs::read_dir(folder).map_err(Failure::machine(folder, "read"))?;
+    let mut unread = Vec::new();
+    for entry in WalkDir::new(folder).into_iter().filter_entry(wanted) {
+        match entry {
+            Ok(entry) if !entry.file_type().is_dir() => note(entry),
+            Ok(_) => {}
+            Err(error) => unread.push(walk_failure(folder, error)),
+        }
+    }
+    Ok(unread)
 }
 
 impl Found {

@@ -2,7 +2,7 @@
 //!
 //! A library preloaded into the real command makes one call fail or ends the process there (fault.c).
 mod common;
-use common::{command_on, folder, plain_frame, ran, Folder, Ran, TODAY};
+use common::{command_on, folder, plain_frame, ran, state_of, Folder, Ran, State, TODAY};
 use std::collections::BTreeSet;
 use std::fs;
 use std::process::Command;
@@ -21,30 +21,15 @@ fn prepared(f: &Folder, words: &str) -> Command {
     run
 }
 
-/// A run in which call `at` meets a fault. None where there is no such call, and then the run must have been accepted.
+/// A run in which call `at` meets a fault, where there is such a call.
 fn faulty(f: &Folder, words: &str, fault: &str, at: u32) -> Option<Ran> {
-    let mark = f.join("mark");
-    let _ = fs::remove_file(&mark);
-    let mut run = prepared(f, words);
-    run.env("FAULT", fault).env("FAULT_AT", at.to_string()).env("FAULT_MARK", &mark);
-    let ran = ran(run.output().unwrap());
-    if mark.exists() {
-        return Some(ran);
-    }
-    assert_eq!(ran.status, Some(0), "{words}: {ran:?}");
-    None
+    common::faulty(f, prepared(f, words), fault, at)
 }
 
-/// The bytes of held file, ledger and sums, where they exist.
-type State = [Option<Vec<u8>>; 3];
 const GONE: State = [None, None, None];
 
 fn state(f: &Folder) -> State {
     state_of(f, "a")
-}
-
-fn state_of(f: &Folder, name: &str) -> State {
-    ["held", "ledger", "sha256"].map(|ending| fs::read(f.join(&format!("{name}.{ending}"))).ok())
 }
 
 /// A folder with a frame and, for the other changes, a holding of three lines; from before there were sums, to seal it.

@@ -103,7 +103,6 @@ fn untouched(f: &Folder, words: &str, number: u32, part: &str) {
 fn each_refusal_of_a_change_has_its_sentence() {
     let f = folder();
     f.hold("1", 0);
-    untouched(&f, "correct a 0 300", 18, "a.held: refusal 18: the held file has no room");
     untouched(&f, "correct a 16 1", 24, "the frame has no such pixel");
     untouched(&f, "correct a 0,4 1", 24, "ROW,COLUMN both start at 0");
     untouched(&f, "correct a 18446744073709551615,1 1", 24, "no such pixel");
@@ -176,7 +175,7 @@ fn bad_usage_has_its_status() {
     for words in usages {
         assert_eq!(f.run(words).status, Some(2), "{words}");
     }
-    for words in ["correct a 1 -1", "open a -o b", "sweep", "sweep . --day 11/02/2031", "list a b", "list a/"] {
+    for words in ["correct a 1 -1", "open a -o b", "sweep", "sweep . --day 11/02/2031", "list a/"] {
         assert_eq!(f.run(words).status, Some(2), "{words}");
     }
 }

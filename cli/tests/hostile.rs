@@ -7,6 +7,8 @@ mod args;
 mod digest;
 #[path = "../src/failure.rs"]
 mod failure;
+#[path = "../src/given.rs"]
+mod given;
 #[path = "../src/ledger.rs"]
 mod ledger;
 #[path = "../src/pixels.rs"]
@@ -17,6 +19,8 @@ mod redo;
 mod refusals;
 #[path = "../src/sums.rs"]
 mod sums;
+#[path = "../src/table.rs"]
+mod table;
 
 use digest::{Digest, State};
 use std::alloc::{GlobalAlloc, Layout, System};
@@ -204,4 +208,15 @@ fn listings() {
         ledger::last_standing(&listing);
         ledger::keep_line(&listing).is_some()
     });
+}
+
+#[test]
+fn tables() {
+    let samples: [&[u8]; 4] = [
+        b"holding,pixel,count\na,5,90\n\"b, c\",6,4294967295\n",
+        b"who;row;column;count;holding\nanna;1;2;90;a\n;;;;\n",
+        b"{\"holding\":\"a\",\"pixel\":5,\"count\":\"90\"}\n\n{\"row\":6,\"column\":1,\"count\":1,\"holding\":\"b\"}\n",
+        b"\xef\xbb\xbfcount\tpixel\tholding\r\n1\t2\ta\r\n",
+    ];
+    feed(6, &samples.map(<[u8]>::to_vec), |bytes| table::read(bytes).is_ok_and(|table| !table.rows.is_empty()));
 }

@@ -6,8 +6,9 @@ use chrono::NaiveDate;
 use header::Header;
 use std::collections::BTreeSet;
 use std::fs;
+use std::io::Write;
 use std::path::{Path, PathBuf};
-use std::process::{Command, Output};
+use std::process::{Command, Output, Stdio};
 use std::sync::OnceLock;
 use tempfile::TempDir;
 
@@ -67,6 +68,38 @@ pub fn ran(output: Output) -> Ran {
     Ran { status: output.status.code(), out: text(output.stdout), err: text(output.stderr) }
 }
 
+/// A run in which call `at` meets a fault. None where there is no such call, and then the run must have been accepted.
+pub fn faulty(f: &Folder, mut run: Command, fault: &str, at: u32) -> Option<Ran> {
+    let mark = f.join("mark");
+    let _ = fs::remove_file(&mark);
+    run.env("FAULT", fault).env("FAULT_AT", at.to_string()).env("FAULT_MARK", &mark);
+    let ran = ran(run.output().unwrap());
+    if mark.exists() {
+        return Some(ran);
+    }
+    assert_eq!(ran.status, Some(0), "{run:?}: {ran:?}");
+    None
+}
+
+/// Kills the command after each of these calls in turn: one thing after the other up to the last, and then on all cores.
+pub fn killed_in_turn(f: &Folder, words: &str, calls: &[&str]) {
+    for (number, call) in calls.iter().enumerate() {
+        let mut run = command();
+        run.args(words.split(' ')).current_dir(f.path()).env("FAULT", "after").env("FAULT_AT", call);
+        if number + 1 < calls.len() {
+            run.env("RAYON_NUM_THREADS", "1");
+        }
+        assert_eq!(ran(run.output().unwrap()).status, None, "{words}: {call}");
+    }
+}
+
+/// The bytes of held file, ledger and sums, where they exist.
+pub type State = [Option<Vec<u8>>; 3];
+
+pub fn state_of(f: &Folder, name: &str) -> State {
+    ["held", "ledger", "sha256"].map(|ending| fs::read(f.join(&format!("{name}.{ending}"))).ok())
+}
+
 impl Folder {
     pub fn path(&self) -> &Path {
         self.0.path()
@@ -80,6 +113,12 @@ impl Folder {
         fs::write(self.join(name), bytes).unwrap();
     }
 
+    /// The same for a file in a folder of its own.
+    pub fn put_below(&self, name: &str, bytes: impl AsRef<[u8]>) {
+        fs::create_dir_all(self.join(name).parent().unwrap()).unwrap();
+        self.put(name, bytes);
+    }
+
     pub fn get(&self, name: &str) -> Vec<u8> {
         fs::read(self.join(name)).unwrap()
     }
@@ -91,6 +130,15 @@ impl Folder {
     /// Runs the command with these words, in this folder.
     pub fn run(&self, words: &str) -> Ran {
         ran(command().args(words.split(' ')).current_dir(self.path()).output().unwrap())
+    }
+
+    /// The same with this on standard input.
+    pub fn run_with(&self, words: &str, input: &[u8]) -> Ran {
+        let mut run = command();
+        run.args(words.split(' ')).current_dir(self.path()).stdin(Stdio::piped());
+        let mut child = run.stdout(Stdio::piped()).stderr(Stdio::piped()).spawn().unwrap();
+        child.stdin.take().unwrap().write_all(input).unwrap();
+        ran(child.wait_with_output().unwrap())
     }
 
     /// The same on another day.

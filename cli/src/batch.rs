@@ -1,0 +1,82 @@
+//! One piece of work on many things: on all cores, answered in the order of the things, with totals.
+use crate::failure::{Failure, Outcome};
+use crate::output::{progress, Output};
+use rayon::prelude::*;
+use serde_json::{json, Value};
+
+/// So many things for each core are worked on at once, and then said in order.
+const BATCH: usize = 64;
+/// What becomes of things that are not done.
+const NOT_DONE: [&str; 4] = ["refused", "declined", "damaged", "failed"];
+
+/// What is said of a thing, and the word under which it is counted.
+#[derive(Debug)]
+pub struct Said {
+    pub text: String,
+    pub value: Value,
+    pub counted: &'static str,
+}
+
+/// Works on each thing and says the answers. Only the answers of one batch are kept, never what was read for them.
+pub fn run<I: Sync, T: Send>(
+    output: &mut Output,
+    items: &[I],
+    things: &str,
+    work: impl Fn(&I) -> T + Sync,
+    mut say: impl FnMut(&mut Output, &I, T) -> Outcome<()>,
+) -> Outcome<()> {
+    if let [item] = items {
+        return say(output, item, work(item));
+    }
+    let bar = progress(items.len() as u64, things);
+    for batch in items.chunks(BATCH * rayon::current_num_threads()) {
+        let answers: Vec<T> = batch.par_iter().map(&work).inspect(|_| bar.inc(1)).collect();
+        bar.suspend(|| batch.iter().zip(answers).try_for_each(|(item, answer)| say(output, item, answer)))?;
+    }
+    bar.finish_and_clear();
+    Ok(())
+}
+
+/// How many of the things came to what.
+pub struct Tally {
+    things: &'static str,
+    number: u64,
+    counts: Vec<(&'static str, u64)>,
+}
+
+impl Tally {
+    /// With the words for what is done; those for what is not are the same everywhere.
+    pub fn new(things: &'static str, done: &[&'static str]) -> Tally {
+        let words = done.iter().copied().chain(NOT_DONE);
+        Tally { things, number: 0, counts: words.map(|word| (word, 0)).collect() }
+    }
+
+    pub fn add(&mut self, word: &str) {
+        self.number += 1;
+        self.counts.iter_mut().filter(|(known, _)| *known == word).for_each(|(_, count)| *count += 1);
+    }
+
+    pub fn text(&self) -> String {
+        let counts: Vec<String> = self.counts.iter().map(|(word, count)| format!("{count} {word}")).collect();
+        format!("{} {}: {}", self.number, self.things, counts.join(", "))
+    }
+
+    pub fn say(&self, output: &mut Output) -> Outcome<()> {
+        let mut totals = json!({self.things: self.number});
+        for (word, count) in &self.counts {
+            totals[word.replace(' ', "_")] = json!(count);
+        }
+        output.say(&self.text(), &json!({"totals": totals}))
+    }
+}
+
+/// The word under which a failure is counted.
+pub fn word_of(failure: &Failure) -> &'static str {
+    let [refused, declined, damaged, failed] = NOT_DONE;
+    match failure {
+        Failure::Refused(_) => refused,
+        Failure::Declined { .. } => declined,
+        Failure::Damaged { .. } => damaged,
+        Failure::Usage(_) | Failure::InUse { .. } | Failure::Machine { .. } | Failure::Unread => failed,
+    }
+}

@@ -1,0 +1,82 @@
+//! The corrections: one pixel, or those of a table.
+use crate::args::{Correct, Place};
+use crate::failure::{shown, Failure, Outcome};
+use crate::holding::{Change, Contents, Holding, Owned};
+use crate::holdings::{accepted, line_text, line_value};
+use crate::ledger::{self, Lent, Line};
+use crate::output::Output;
+use crate::room;
+use crate::rows;
+use crate::table::Asked;
+use serde_json::json;
+use std::time::Duration;
+
+pub fn correct(output: &mut Output, asked: &Correct, wait: Option<Duration>) -> Outcome<()> {
+    match *asked {
+        Correct { from: Some(ref file), .. } => rows::correct(output, file, wait),
+        Correct { name: Some(ref name), pixel: Some(place), count: Some(count), .. } => {
+            one(output, &Holding::named(name, wait)?, Asked { place, count })
+        }
+        _ => Err(Failure::Usage("give a holding, a pixel and a count, or a table with --from".into())),
+    }
+}
+
+fn one(output: &mut Output, holding: &Holding, asked: Asked) -> Outcome<()> {
+    let (owned, found) = holding.change()?;
+    let mut draft = Draft::of(found, 1);
+    draft.correct(holding, asked)?;
+    let lines = draft.commit(&owned, 1)?;
+    let name = shown(&holding.name);
+    lines.iter().try_for_each(|line| {
+        let text = format!("{name}: line {}: {}", line.number, line_text(line));
+        output.say(&text, &json!({"name": name, "appended": line_value(line)}))
+    })
+}
+
+/// Both files of a holding as they become, and as they were found.
+pub struct Draft {
+    held: Vec<u8>,
+    lent: Lent,
+    found: Contents,
+}
+
+impl Draft {
+    /// With room in the ledger for so many lines.
+    pub fn of(mut found: Contents, lines: usize) -> Draft {
+        let held = std::mem::take(&mut found.held);
+        let lent = Lent::new(std::mem::take(&mut found.ledger), lines as u64);
+        Draft { held, lent, found }
+    }
+
+    /// Makes a correction here. One that is refused changes nothing.
+    pub fn correct(&mut self, holding: &Holding, asked: Asked) -> Outcome<()> {
+        let (pixel, lent) = (pixel_number(asked.place, &self.held), &mut self.lent);
+        let call = |held: &mut [u8]| quayrudder::correct(held, &mut lent.bytes, lent.lines, pixel, asked.count);
+        let answer = room::lend(&mut self.held, call);
+        accepted(holding, answer.refusal, &self.lent.bytes)?;
+        self.lent.lines = answer.lines;
+        Ok(())
+    }
+
+    /// Makes the holding what this is, and gives its last lines.
+    pub fn commit(&self, owned: &Owned, lines: usize) -> Outcome<Vec<Line>> {
+        let ledger = self.lent.used(self.lent.lines);
+        let change = Change { held: Some(&self.held), ledger: Some(ledger), notes: self.found.notes() };
+        owned.commit(self.found.state, &change)?;
+        let mut lines: Vec<Line> = ledger::backwards(&ledger::listing(ledger)).take(lines).collect();
+        lines.reverse();
+        Ok(lines)
+    }
+}
+
+/// The number of the pixel meant. A column past the last is no pixel, and neither is the largest number.
+pub fn pixel_number(place: Place, held: &[u8]) -> u64 {
+    match place {
+        Place::Pixel(number) => number,
+        Place::At { row, column } => {
+            let columns = u64::from(quayrudder::header(held).columns);
+            let number = row.checked_mul(columns).and_then(|start| start.checked_add(column));
+            number.filter(|_| column < columns).unwrap_or(u64::MAX)
+        }
+    }
+}

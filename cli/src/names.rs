@@ -1,0 +1,193 @@
+//! What a command works on: the names that are given, and what lies below folders.
+use crate::batch::{self, Said, Tally};
+use crate::failure::{shown, Failure, Outcome};
+use crate::files;
+use crate::given::Names;
+use crate::output::Output;
+use crate::walk::{self, Kind};
+use std::collections::HashSet;
+use std::ffi::OsStr;
+use std::io::Read;
+use std::os::unix::ffi::OsStrExt;
+use std::path::{Component, Path, PathBuf};
+use std::sync::Arc;
+use std::time::Duration;
+
+/// How long one holding is waited for where names come from a list or a folder.
+pub const WAIT: Duration = Duration::from_secs(10);
+
+/// A frame or a holding, and the folder below which it was found.
+pub struct Item {
+    pub path: PathBuf,
+    below: Option<Arc<Path>>,
+}
+
+/// What is to be worked on, in order: names as given, those of the list, and then what each folder has in path order.
+#[derive(Default)]
+pub struct Found {
+    pub items: Vec<Item>,
+    pub unread: Vec<Failure>,
+    /// Ledgers that belong to nothing.
+    pub not_holdings: u64,
+    /// Is this more than one name that was given?
+    pub many: bool,
+    /// Do names come from a list or a folder?
+    pub listed: bool,
+}
+
+impl Item {
+    /// The path that an output keeps: that below the folder, or else the name alone.
+    pub fn rest(&self) -> &Path {
+        let name = self.path.file_name().map_or(self.path.as_path(), Path::new);
+        self.below.as_ref().and_then(|folder| self.path.strip_prefix(folder).ok()).unwrap_or(name)
+    }
+}
+
+/// Holdings, by name or below folders. Some names may stand for a folder themselves.
+pub fn holdings(asked: &Names, is_folder: impl Fn(&Path) -> bool) -> Outcome<Found> {
+    let mut found = Found::new(asked);
+    for path in words(asked)? {
+        match is_folder(&path) {
+            true => found.add_holdings(&path)?,
+            false => found.items.push(Item { path, below: None }),
+        }
+    }
+    asked.below.iter().try_for_each(|folder| found.add_holdings(folder))?;
+    Ok(found)
+}
+
+/// Frames, by name or below folders; a folder in there that outputs go into is left out.
+pub fn frames(asked: &Names, outputs: Option<&Path>) -> Outcome<Found> {
+    let mut found = Found::new(asked);
+    found.items.extend(words(asked)?.into_iter().map(|path| Item { path, below: None }));
+    for folder in &asked.below {
+        let inside = outputs.and_then(|outputs| walk::inside(outputs, folder)).filter(|inside| inside != folder);
+        let walked = walk::frames(folder, inside.as_deref())?;
+        found.unread.extend(walked.unread);
+        found.add(folder, walked.files);
+    }
+    Ok(found)
+}
+
+/// The names as given, and then those of the list.
+fn words(asked: &Names) -> Outcome<Vec<PathBuf>> {
+    let listed = asked.names_from.as_deref().map_or(Ok(Vec::new()), list)?;
+    Ok(asked.names.iter().cloned().chain(listed).collect())
+}
+
+/// The names in a file, each as its bytes are.
+fn list(file: &Path) -> Outcome<Vec<PathBuf>> {
+    let bytes = read(file)?;
+    let separator = if bytes.contains(&0) { 0 } else { b'\n' };
+    let names = bytes.split(|byte| *byte == separator).filter(|name| !name.is_empty());
+    Ok(names.map(|name| PathBuf::from(OsStr::from_bytes(name))).collect())
+}
+
+/// A file, or standard input for `-`.
+pub fn read(file: &Path) -> Outcome<Vec<u8>> {
+    if file != Path::new("-") {
+        return files::read(file);
+    }
+    let mut bytes = Vec::new();
+    let read = std::io::stdin().lock().read_to_end(&mut bytes);
+    read.map(|_| bytes).map_err(Failure::machine(Path::new("standard input"), "read"))
+}
+
+impl Found {
+    fn new(asked: &Names) -> Found {
+        Found { many: asked.single().is_none(), listed: asked.is_listed(), ..Found::default() }
+    }
+
+    /// The holdings below a folder.
+    fn add_holdings(&mut self, folder: &Path) -> Outcome<()> {
+        let walked = walk::find(folder, None)?;
+        self.unread.extend(walked.unread);
+        let mut holdings = Vec::new();
+        for (name, lies) in walked.names {
+            match lies.kind(&name) {
+                // With its ending a name is just this one, whatever it ends in itself.
+                Kind::Holding => holdings.push(files::with_ending(&name, ".ledger")),
+                Kind::Stranger => self.not_holdings += 1,
+                Kind::Rest | Kind::Nothing => {}
+            }
+        }
+        self.add(folder, holdings);
+        Ok(())
+    }
+
+    fn add(&mut self, folder: &Path, paths: Vec<PathBuf>) {
+        let folder: Arc<Path> = folder.into();
+        (self.many, self.listed) = (true, true);
+        self.items.extend(paths.into_iter().map(|path| Item { path, below: Some(folder.clone()) }));
+    }
+
+    /// Somebody who names one holding waits for it; a list goes on.
+    pub fn wait(&self, asked: Option<Duration>) -> Option<Duration> {
+        asked.or(self.listed.then_some(WAIT))
+    }
+
+    /// Works on each of these, says the answers and, where there are many, the totals.
+    pub fn each(
+        &self,
+        output: &mut Output,
+        things: &'static str,
+        done: &[&'static str],
+        work: impl Fn(&Item) -> Outcome<Said> + Sync,
+    ) -> Outcome<()> {
+        let mut tally = Tally::new(things, done);
+        for failure in &self.unread {
+            tally.add(batch::word_of(failure));
+            output.failed(failure)?;
+        }
+        batch::run(output, &self.items, things, work, |output, _, answer| match answer {
+            Ok(said) => {
+                tally.add(said.counted);
+                output.say(&said.text, &said.value)
+            }
+            Err(failure) => {
+                tally.add(batch::word_of(&failure));
+                output.failed(&failure)
+            }
+        })?;
+        if self.many {
+            tally.say(output)
+        } else {
+            Ok(())
+        }
+    }
+
+    /// The targets that more than one of these would change or make.
+    pub fn doubled(&self, target: impl Fn(&Item) -> PathBuf, why: &'static str) -> Doubled {
+        let (mut met, mut targets) = (HashSet::new(), HashSet::new());
+        for item in &self.items {
+            let target = plain(&target(item));
+            if met.contains(&target) {
+                targets.insert(target);
+            } else {
+                met.insert(target);
+            }
+        }
+        Doubled { targets, why }
+    }
+}
+
+/// Targets that are left alone, and why.
+#[derive(Default)]
+pub struct Doubled {
+    targets: HashSet<PathBuf>,
+    why: &'static str,
+}
+
+impl Doubled {
+    pub fn must_not_have(&self, item: &Item, target: &Path) -> Outcome<()> {
+        match self.targets.contains(&plain(target)) {
+            false => Ok(()),
+            true => Err(Failure::declined(&item.path, format!("{} is not made: {}", shown(target), self.why))),
+        }
+    }
+}
+
+/// A path without the components that mean nothing.
+pub fn plain(path: &Path) -> PathBuf {
+    path.components().filter(|part| *part != Component::CurDir).collect()
+}
