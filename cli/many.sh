@@ -1,13 +1,33 @@
 #!/bin/sh
-# many.sh QUAYRUDDER FOLDER [NUMBER]: so many holdings (200,000) swept and verified, and two thousand of them moved and
-# deleted, with time and memory. The folder is made anew and removed; it takes 2.4 gigabytes. Needs GNU time.
+# many.sh QUAYRUDDER FOLDER [NUMBER]: a tier of so many holdings (200,000), with time and memory of each step. First it is
+# opened from frames, kept, corrected from a table of half as many rows, verified and swept, each in one command; then
+# copies of one holding are swept and verified, and two thousand of them moved and deleted. The folder is made anew and
+# removed; it takes 5 gigabytes. Needs GNU time.
 set -eu
 command=$(realpath "$1")
-many=$(dirname "$command")/examples/many_holdings
+examples=$(dirname "$command")/examples
 number=${3:-200000}
 rm -rf "$2"
 mkdir -p "$2/one" "$2/few"
 cd "$2"
+
+run() {
+    echo "$ quayrudder $*"
+    /usr/bin/time -f '%e s, %M kB at most, %P of a core' "$command" "$@" 2> said | tail -n 1
+    tail -n 1 said
+}
+
+# From frames to a purge question. What was made is given again: a batch that was killed goes on like this.
+"$examples/many_frames" frames "$number" table.csv $((number / 2)) archive
+run open --below frames --form 1+2 --room 0 -o archive
+run open --below frames --form 1+2 --room 0 -o archive
+run keep --below archive 2040-01-01
+run keep --below archive 2040-01-01
+run correct --from table.csv
+run correct --from table.csv
+run verify --below archive
+run sweep archive --day 2040-01-02
+rm -rf frames archive
 
 # A header of 96 lines and a frame of 4 rows of 4 pixels.
 awk 'BEGIN {
@@ -21,14 +41,8 @@ head -c 64 /dev/zero > counts.raw
 "$command" correct one/t 3 99
 "$command" keep one/t 2001-01-01 --shorten
 
-run() {
-    echo "$ quayrudder $*"
-    /usr/bin/time -f '%e s, %M kB at most, %P of a core' "$command" "$@" 2> said | tail -n 1
-    tail -n 1 said
-}
-
-"$many" one/t all "$number"
-"$many" one/t few 2000
+"$examples/many_holdings" one/t all "$number"
+"$examples/many_holdings" one/t few 2000
 files=$(find all | wc -l)
 run sweep all
 run sweep all --day 2000-12-31 --json

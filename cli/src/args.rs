@@ -1,7 +1,7 @@
 //! The command line.
 use crate::given::{Dated, Names};
 use crate::pixels::Format;
-use clap::{Args, Parser, Subcommand};
+use clap::{Arg, Args, Parser, Subcommand};
 use quayrudder::{Date, Form};
 use std::path::PathBuf;
 
@@ -30,15 +30,24 @@ pub struct Cli {
 #[derive(Subcommand)]
 pub enum Command {
     /// Say what frames, mar images and d*TREK images are: format, size, form, counts and end, or why they are refused
-    #[command(after_help = "Examples:\n  quayrudder info lysozyme_01_0001.sfrm\n  quayrudder info --below frames")]
+    #[command(
+        mut_arg("names", images),
+        after_help = "Examples:\n  quayrudder info lysozyme_01_0001.sfrm\n  quayrudder info --below frames"
+    )]
     Info(Info),
     /// Write the counts of a frame or image as .npy, .raw (32 bits, least significant byte first) or .pgm (16 bits)
-    #[command(after_help = "Examples:\n  quayrudder expand lysozyme_01_0001.sfrm -o counts.npy\n  \
-                            quayrudder expand --below frames --as npy -o counts")]
+    #[command(
+        mut_arg("names", images),
+        after_help = "Examples:\n  quayrudder expand lysozyme_01_0001.sfrm -o counts.npy\n  \
+                            quayrudder expand --below frames --as npy -o counts"
+    )]
     Expand(Expand),
     /// Make a picture of a frame or image to look at
-    #[command(after_help = "Examples:\n  quayrudder view lysozyme_01_0001.sfrm -o look.png --log\n  \
-                            quayrudder view --below frames -o pictures --log")]
+    #[command(
+        mut_arg("names", images),
+        after_help = "Examples:\n  quayrudder view lysozyme_01_0001.sfrm -o look.png --log\n  \
+                            quayrudder view --below frames -o pictures --log"
+    )]
     View(View),
     /// Write a frame of FORMAT 100 from a header, counts and a form
     #[command(
@@ -46,8 +55,11 @@ pub enum Command {
     )]
     Write(Write),
     /// Open frames: make NAME.held and an empty NAME.ledger of each
-    #[command(after_help = "Examples:\n  quayrudder open lysozyme_01_0001.sfrm --form 1+2 --room 4096 -o lyso1\n  \
-                            quayrudder open --below frames --form 1+2 -o archive")]
+    #[command(
+        mut_arg("names", frames),
+        after_help = "Examples:\n  quayrudder open lysozyme_01_0001.sfrm --form 1+2 --room 4096 -o lyso1\n  \
+                            quayrudder open --below frames --form 1+2 -o archive"
+    )]
     Open(Open),
     /// Correct the count of one pixel of a holding, or those of a whole table
     #[command(after_help = "Examples:\n  quayrudder correct lyso1 5,17 300\n  quayrudder correct lyso1 2577 300\n  \
@@ -55,19 +67,26 @@ pub enum Command {
     Correct(Correct),
     /// Keep holdings until this day, the last word; an earlier one than before needs --shorten
     #[command(
+        mut_arg("names", holdings_and_day),
         override_usage = "quayrudder keep [OPTIONS] [NAME]... <YYYY-MM-DD>",
         after_help = "Examples:\n  quayrudder keep lyso1 2031-11-02\n  quayrudder keep lyso1 lyso2 2031-11-02\n  \
                       quayrudder keep lyso1 2029-01-01 --shorten\n  quayrudder keep --below archive 2031-11-02"
     )]
     Keep(Keep),
     /// Take back the last correction or keep date that stands
-    #[command(after_help = "Examples:\n  quayrudder withdraw lyso1\n  quayrudder withdraw --names-from wrong.txt")]
+    #[command(
+        mut_arg("names", holdings),
+        after_help = "Examples:\n  quayrudder withdraw lyso1\n  quayrudder withdraw --names-from wrong.txt"
+    )]
     Withdraw {
         #[command(flatten)]
         names: Names,
     },
     /// List the ledgers of holdings
-    #[command(after_help = "Examples:\n  quayrudder list lyso1\n  quayrudder list --below archive")]
+    #[command(
+        mut_arg("names", holdings),
+        after_help = "Examples:\n  quayrudder list lyso1\n  quayrudder list --below archive"
+    )]
     List {
         #[command(flatten)]
         names: Names,
@@ -82,14 +101,38 @@ pub enum Command {
         day: Date,
     },
     /// Check that holdings are what their sums say and that held frames agree with their ledgers
-    #[command(after_help = "Examples:\n  quayrudder verify lyso1 lyso2\n  quayrudder verify archive\n  \
-                            quayrudder verify archive --seal")]
+    #[command(
+        mut_arg("names", holdings_or_folders),
+        after_help = "Examples:\n  quayrudder verify lyso1 lyso2\n  quayrudder verify archive\n  \
+                            quayrudder verify archive --seal"
+    )]
     Verify(Verify),
     /// Ask every ledger below a folder whether its holding may be purged; it goes only with --into or --delete
     #[command(after_help = "Examples:\n  quayrudder sweep archive --day 2031-11-03\n  \
                             quayrudder sweep archive --into bin\n  \
                             quayrudder sweep bin --delete --log purge.log")]
     Sweep(Sweep),
+}
+
+// What the names of each command are.
+fn images(names: Arg) -> Arg {
+    names.value_name("FRAME").help("The frames or images, as many as you like")
+}
+
+fn frames(names: Arg) -> Arg {
+    names.value_name("FRAME").help("The frames, as many as you like")
+}
+
+fn holdings(names: Arg) -> Arg {
+    names.help("The holdings, as many as you like")
+}
+
+fn holdings_and_day(names: Arg) -> Arg {
+    names.help("The holdings, as many as you like, and last the day until which they must be kept")
+}
+
+fn holdings_or_folders(names: Arg) -> Arg {
+    names.value_name("NAME|DIR").help("The holdings, or folders with holdings in them, as many as you like")
 }
 
 #[derive(Args)]

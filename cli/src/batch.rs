@@ -2,10 +2,15 @@
 use crate::failure::{Failure, Outcome};
 use crate::output::{progress, Output};
 use rayon::prelude::*;
+use rayon::{ThreadPool, ThreadPoolBuilder};
 use serde_json::{json, Value};
 
-/// So many things for each core are worked on at once, and then said in order.
-const BATCH: usize = 64;
+/// So many things for each core are worked on, and then said in order.
+const BATCH: usize = 128;
+/// Small things wait for the disk most of the time, so that many are worked on at once for each core.
+const ABREAST: usize = 4;
+/// The longest file of a small thing. Opening one of this length takes some 60 megabytes.
+const SMALL: u64 = 4 << 20;
 /// What becomes of things that are not done.
 const NOT_DONE: [&str; 4] = ["refused", "declined", "damaged", "failed"];
 
@@ -17,24 +22,36 @@ pub struct Said {
     pub counted: &'static str,
 }
 
-/// Works on each thing and says the answers. Only the answers of one batch are kept, never what was read for them.
+/// Works on each thing, whose file has this length, and says the answers. Only the answers of one batch are kept, never
+/// what was read for them.
 pub fn run<I: Sync, T: Send>(
     output: &mut Output,
     items: &[I],
     things: &str,
+    length: impl Fn(&I) -> u64,
     work: impl Fn(&I) -> T + Sync,
     mut say: impl FnMut(&mut Output, &I, T) -> Outcome<()>,
 ) -> Outcome<()> {
     if let [item] = items {
         return say(output, item, work(item));
     }
-    let bar = progress(items.len() as u64, things);
+    let (bar, crew) = (progress(items.len() as u64, things), crew());
     for batch in items.chunks(BATCH * rayon::current_num_threads()) {
-        let answers: Vec<T> = batch.par_iter().map(&work).inspect(|_| bar.inc(1)).collect();
+        let all = || batch.par_iter().map(&work).inspect(|_| bar.inc(1)).collect::<Vec<T>>();
+        let answers = match &crew {
+            Some(crew) if batch.iter().all(|item| length(item) <= SMALL) => crew.install(all),
+            _ => all(),
+        };
         bar.suspend(|| batch.iter().zip(answers).try_for_each(|(item, answer)| say(output, item, answer)))?;
     }
     bar.finish_and_clear();
     Ok(())
+}
+
+/// Those who work on small things; as many as rayon's own variable says, where somebody has set it.
+fn crew() -> Option<ThreadPool> {
+    let abreast = if std::env::var_os("RAYON_NUM_THREADS").is_some() { 1 } else { ABREAST };
+    ThreadPoolBuilder::new().num_threads(abreast * rayon::current_num_threads()).build().ok()
 }
 
 /// How many of the things came to what.

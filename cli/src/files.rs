@@ -26,6 +26,11 @@ pub fn read_if_there(path: &Path) -> Outcome<Option<Vec<u8>>> {
     }
 }
 
+/// A file's length; none where it cannot be had.
+pub fn length(path: &Path) -> u64 {
+    fs::metadata(path).map_or(0, |found| found.len())
+}
+
 /// The path with an ending put behind its name.
 pub fn with_ending(path: &Path, ending: &str) -> PathBuf {
     let mut name = OsString::from(path);

@@ -122,7 +122,7 @@ fn counts(file: &Path) -> Outcome<Counts> {
 
 pub fn info(output: &mut Output, asked: &Info) -> Outcome<()> {
     let found = names::frames(&asked.names, None)?;
-    found.each(output, "frames", &["accepted"], |item| read(&item.path).map(|frame| said_of(&item.path, &frame)))
+    found.each(output, &["accepted"], |item| read(&item.path).map(|frame| said_of(&item.path, &frame)))
 }
 
 fn said_of(file: &Path, frame: &Frame) -> Said {
@@ -180,7 +180,7 @@ pub fn expand(output: &mut Output, asked: &Expand) -> Outcome<()> {
     let format = format(asked)?;
     let found = names::frames(&asked.names, Some(&asked.output))?;
     let outputs = Outputs::new(&found, &asked.output, format.ending())?;
-    found.each(output, "frames", &["expanded", "already expanded"], |item| {
+    found.each(output, &["expanded", "already expanded"], |item| {
         let file = outputs.of(item)?;
         let counts = counts(&item.path)?;
         let bytes = format.bytes(&file, &counts, asked.clip)?;
@@ -209,7 +209,7 @@ pub fn view(output: &mut Output, asked: &View) -> Outcome<()> {
     }
     let found = names::frames(&asked.names, Some(&asked.output))?;
     let outputs = Outputs::new(&found, &asked.output, "png")?;
-    found.each(output, "frames", &["viewed", "already viewed"], |item| {
+    found.each(output, &["viewed", "already viewed"], |item| {
         let file = outputs.of(item)?;
         let counts = counts(&item.path)?;
         let (black, white) = pixels::limits(&counts.pixels, asked.min, asked.max);

@@ -11,7 +11,7 @@ pub struct Names {
     /// The names, as many as you like
     #[arg(value_name = "NAME", required_unless_present_any = ["below", "names_from"])]
     pub names: Vec<PathBuf>,
-    /// Also everything below this folder; may be given several times
+    /// Also every frame or holding below this folder; may be given several times
     #[arg(long, value_name = "DIR")]
     pub below: Vec<PathBuf>,
     /// Also the names in this file, - for standard input: with NUL between them if there is any, else one a line

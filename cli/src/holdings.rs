@@ -34,7 +34,7 @@ fn each(
         [LISTED] => Doubled::default(),
         _ => found.doubled(name, "it is named more than once in this batch. Name it once"),
     };
-    found.each(output, "holdings", done, |item| {
+    found.each(output, done, |item| {
         let holding = Holding::named(&item.path, wait)?;
         doubled.must_not_have(item, &holding.name)?;
         work(&holding, found.many)

@@ -3,6 +3,7 @@ use crate::batch::{self, Said, Tally};
 use crate::failure::{shown, Failure, Outcome};
 use crate::files;
 use crate::given::Names;
+use crate::holding::Holding;
 use crate::output::Output;
 use crate::walk::{self, Kind};
 use std::collections::HashSet;
@@ -16,6 +17,30 @@ use std::time::Duration;
 /// How long one holding is waited for where names come from a list or a folder.
 pub const WAIT: Duration = Duration::from_secs(10);
 
+/// What the names are of.
+#[derive(Clone, Copy, Debug, PartialEq, Eq)]
+pub enum Things {
+    Frames,
+    Holdings,
+}
+
+impl Things {
+    pub fn name(self) -> &'static str {
+        match self {
+            Things::Frames => "frames",
+            Things::Holdings => "holdings",
+        }
+    }
+
+    /// The length of the frame, or of the held file.
+    pub fn length(self, item: &Item) -> u64 {
+        match self {
+            Things::Frames => files::length(&item.path),
+            Things::Holdings => Holding::named(&item.path, None).map_or(0, |holding| files::length(&holding.held)),
+        }
+    }
+}
+
 /// A frame or a holding, and the folder below which it was found.
 pub struct Item {
     pub path: PathBuf,
@@ -23,8 +48,8 @@ pub struct Item {
 }
 
 /// What is to be worked on, in order: names as given, those of the list, and then what each folder has in path order.
-#[derive(Default)]
 pub struct Found {
+    pub things: Things,
     pub items: Vec<Item>,
     pub unread: Vec<Failure>,
     /// Ledgers that belong to nothing.
@@ -45,7 +70,7 @@ impl Item {
 
 /// Holdings, by name or below folders. Some names may stand for a folder themselves.
 pub fn holdings(asked: &Names, is_folder: impl Fn(&Path) -> bool) -> Outcome<Found> {
-    let mut found = Found::new(asked);
+    let mut found = Found::new(Things::Holdings, asked);
     for path in words(asked)? {
         match is_folder(&path) {
             true => found.add_holdings(&path)?,
@@ -58,7 +83,7 @@ pub fn holdings(asked: &Names, is_folder: impl Fn(&Path) -> bool) -> Outcome<Fou
 
 /// Frames, by name or below folders; a folder in there that outputs go into is left out.
 pub fn frames(asked: &Names, outputs: Option<&Path>) -> Outcome<Found> {
-    let mut found = Found::new(asked);
+    let mut found = Found::new(Things::Frames, asked);
     found.items.extend(words(asked)?.into_iter().map(|path| Item { path, below: None }));
     for folder in &asked.below {
         let inside = outputs.and_then(|outputs| walk::inside(outputs, folder)).filter(|inside| inside != folder);
@@ -94,8 +119,9 @@ pub fn read(file: &Path) -> Outcome<Vec<u8>> {
 }
 
 impl Found {
-    fn new(asked: &Names) -> Found {
-        Found { many: asked.single().is_none(), listed: asked.is_listed(), ..Found::default() }
+    fn new(things: Things, asked: &Names) -> Found {
+        let (many, listed) = (asked.single().is_none(), asked.is_listed());
+        Found { things, items: Vec::new(), unread: Vec::new(), not_holdings: 0, many, listed }
     }
 
     /// The holdings below a folder.
@@ -130,16 +156,16 @@ impl Found {
     pub fn each(
         &self,
         output: &mut Output,
-        things: &'static str,
         done: &[&'static str],
         work: impl Fn(&Item) -> Outcome<Said> + Sync,
     ) -> Outcome<()> {
-        let mut tally = Tally::new(things, done);
+        let (things, mut tally) = (self.things, Tally::new(self.things.name(), done));
         for failure in &self.unread {
             tally.add(batch::word_of(failure));
             output.failed(failure)?;
         }
-        batch::run(output, &self.items, things, work, |output, _, answer| match answer {
+        let length = |item: &Item| things.length(item);
+        batch::run(output, &self.items, things.name(), length, work, |output, _, answer| match answer {
             Ok(said) => {
                 tally.add(said.counted);
                 output.say(&said.text, &said.value)

@@ -27,7 +27,7 @@ pub fn open(output: &mut Output, asked: &Open, wait: Option<Duration>) -> Outcom
     let found = names::frames(&asked.names, Some(&asked.output))?;
     let wait = found.wait(wait);
     let outputs = Outputs::new(&found, &asked.output, "")?;
-    found.each(output, "frames", &["opened", "already open"], |item| {
+    found.each(output, &["opened", "already open"], |item| {
         let name = outputs.of(item)?;
         // The name of one of many is that of its frame, whatever it ends in.
         let holding = if found.many { Holding::exactly(&name, wait) } else { Holding::named(&name, wait)? };

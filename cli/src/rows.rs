@@ -2,6 +2,7 @@
 use crate::batch::{self, Tally};
 use crate::corrections::{pixel_number, Draft};
 use crate::failure::{shown, Failure, Outcome, DONE, NO};
+use crate::files;
 use crate::holding::{Contents, Holding};
 use crate::holdings::{line_text, line_value};
 use crate::ledger::{self, Entry, Line};
@@ -43,7 +44,8 @@ pub fn correct(output: &mut Output, file: &Path, wait: Option<Duration>) -> Outc
     let tally = Tally::new("rows", &["made", "already made", "not made"]);
     let mut report = Report { rows: &table.rows, answers, said: 0, tally };
     let work = |group: &Group| make(&Holding::exactly(&group.name, wait), &group.of(&table.rows));
-    batch::run(output, &groups, "holdings", work, |output, group, made| {
+    let length = |group: &Group| files::length(&Holding::exactly(&group.name, None).held);
+    batch::run(output, &groups, "holdings", length, work, |output, group, made| {
         group.rows.iter().zip(made).for_each(|(row, answer)| report.answers[*row] = Some(answer));
         report.say_next(output)
     })?;

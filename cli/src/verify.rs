@@ -46,7 +46,8 @@ pub fn verify(output: &mut Output, asked: &Verify, wait: Option<Duration>) -> Ou
     let failed = found.unread.len() as u64;
     let mut totals = Totals { failed, not_holdings: found.not_holdings, ..Totals::default() };
     let work = |item: &Item| verdict(&item.path, asked.seal, wait);
-    batch::run(output, &found.items, "holdings", work, |output, item, verdict| {
+    let (things, length) = (found.things.name(), |item: &Item| found.things.length(item));
+    batch::run(output, &found.items, things, length, work, |output, item, verdict| {
         totals.add(&verdict);
         match verdict {
             Ok(verdict) => {

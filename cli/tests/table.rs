@@ -137,7 +137,7 @@ fn the_rows_of_a_holding_are_one_change() {
     f.put("t.csv", "holding,pixel,count\na,1,300\nb,1,1\na,2,70000\na,3,3\n");
     let log = f.join("log");
     let mut run = command();
-    run.args(["correct", "--from", "t.csv"]).current_dir(f.path()).env("FAULT_LOG", &log);
+    run.args(["correct", "--from", "t.csv"]).current_dir(f.path()).env("FAULT_LOG", &log).env("RAYON_NUM_THREADS", "1");
     assert_eq!(ran(run.output().unwrap()).status, Some(0));
     let text = fs::read_to_string(log).unwrap();
     for call in ["rename a.held", "rename a.ledger", "rename a.redo", "rename b.held"] {
