@@ -29,7 +29,7 @@ const SENTENCES: [Sentence; 38] = [
     say("a count and the baseline are above 4,294,967,295 together", "Look at the baseline in header line 79."),
     say("this form cannot be had for this frame", "Ask for 1, 2 or 4, alone or with +1 or +2 (--form 1+2). FORMAT 86 is only read, and +1 and +2 need a baseline in header line 79."),
     say("an underflow entry is too large for one byte", "Use underflow entries of two bytes: open or write the frame with a form that ends in +2."),
-    say("the held file has no room for the longer frame", "Open the frame again under another name with a larger --room, and make the standing corrections there."),
+    say("the held file has no room for the longer frame", "Lend it 48 bytes more: the command does so by itself."),
     say("the held file is no frame as the writer makes it", "It was damaged or changed by hand: restore the holding from its copy."),
     say("the ledger is malformed", "It was damaged, cut short or changed by hand: restore the holding from its copy."),
     say("the ledger is full", "Lend the ledger more bytes."),
