@@ -19,8 +19,11 @@ mod purge_log;
 mod redo;
 mod refusals;
 mod removal;
+mod shard;
 mod sums;
 mod sweep;
+mod total;
+mod totals;
 mod verify;
 mod walk;
 
@@ -81,5 +84,6 @@ fn run(output: &mut Output, command: Command, seconds: Option<u32>) -> Outcome<(
             let seconds = seconds.unwrap_or(SWEEP_WAIT);
             sweep::sweep(output, &asked, Duration::from_secs(seconds.into()))
         }
+        Command::Total { files } => total::total(output, &files),
     }
 }

@@ -6,7 +6,9 @@ use crate::holding::{Change, Contents, Holding};
 use crate::holdings::accepted;
 use crate::ledger::{self, Lent};
 use crate::output::{progress, Output};
+use crate::shard::Shard;
 use crate::sums;
+use crate::totals::{self, Totals};
 use crate::walk::{self, Kind};
 use rayon::prelude::*;
 use serde_json::{json, Value};
@@ -22,20 +24,7 @@ const WAIT: Duration = Duration::from_secs(10);
 #[derive(Default)]
 struct Named {
     names: Vec<PathBuf>,
-    unread: Vec<Failure>,
-    not_holdings: u64,
     folders: u64,
-}
-
-#[derive(Default)]
-struct Totals {
-    holdings: u64,
-    agree: u64,
-    without_sums: u64,
-    sealed: u64,
-    damaged: u64,
-    failed: u64,
-    not_holdings: u64,
 }
 
 /// What a holding that agrees has.
@@ -54,11 +43,9 @@ enum Sealed {
 }
 
 pub fn verify(output: &mut Output, asked: &Verify, wait: Option<Duration>) -> Outcome<()> {
-    let named = find(&asked.names)?;
+    let mut totals = Totals::new(totals::Kind::Verify, asked.shard);
+    let named = find(output, asked, &mut totals)?;
     let wait = wait.or((named.folders > 0).then_some(WAIT));
-    named.unread.iter().try_for_each(|failure| output.failed(failure))?;
-    let failed = named.unread.len() as u64;
-    let mut totals = Totals { failed, not_holdings: named.not_holdings, ..Totals::default() };
     let bar = progress(named.names.len() as u64, "holdings");
     for batch in named.names.chunks(BATCH) {
         let verdicts: Vec<Outcome<Verdict>> =
@@ -67,35 +54,36 @@ pub fn verify(output: &mut Output, asked: &Verify, wait: Option<Duration>) -> Ou
     }
     bar.finish_and_clear();
     if named.folders > 0 {
-        output.say(&totals.text(), &json!({"totals": totals.value()}))
+        totals.say(output)
     } else {
         Ok(())
     }
 }
 
 /// A folder stands for the holdings below it, unless there is a holding of its name.
-fn find(asked: &[PathBuf]) -> Outcome<Named> {
+fn find(output: &mut Output, asked: &Verify, totals: &mut Totals) -> Outcome<Named> {
     let mut named = Named::default();
-    for path in asked {
+    for path in &asked.names {
         let is_holding = Holding::named(path, None).is_ok_and(|holding| holding.must_exist().is_ok());
         match path.is_dir() && !is_holding {
-            true => named.add_folder(path)?,
-            false => named.names.push(path.clone()),
+            true => named.add_folder(output, path, totals)?,
+            false if asked.shard == Shard::WHOLE => named.names.push(path.clone()),
+            false => return Err(Failure::Usage(format!("--shard divides folders, and `{}` is none", shown(path)))),
         }
     }
     Ok(named)
 }
 
 impl Named {
-    fn add_folder(&mut self, folder: &Path) -> Outcome<()> {
-        let found = walk::find(folder, None)?;
+    fn add_folder(&mut self, output: &mut Output, folder: &Path, totals: &mut Totals) -> Outcome<()> {
+        let found = walk::find(folder, None, totals.shard)?;
         self.folders += 1;
-        self.unread.extend(found.unread);
+        totals.begin(output, &found)?;
         for (name, lies) in found.names {
             match lies.kind(&name) {
                 // With its ending a name is just this one, whatever it ends in itself.
                 Kind::Holding => self.names.push(files::with_ending(&name, ".ledger")),
-                Kind::Stranger => self.not_holdings += 1,
+                Kind::Stranger => totals.count(&["not a holding"]),
                 Kind::Rest | Kind::Nothing => {}
             }
         }
@@ -110,7 +98,7 @@ fn say_batch(
     totals: &mut Totals,
 ) -> Outcome<()> {
     for (name, verdict) in names.iter().zip(verdicts) {
-        totals.add(verdict);
+        totals.count(counted(verdict));
         match verdict {
             Ok(verdict) => {
                 let name = Holding::named(name, None)?.name;
@@ -120,6 +108,17 @@ fn say_batch(
         }
     }
     Ok(())
+}
+
+/// The words under which a verdict is counted.
+fn counted(verdict: &Outcome<Verdict>) -> &'static [&'static str] {
+    match verdict.as_ref().map(|verdict| verdict.sums) {
+        Ok(Sealed::Before) => &["holdings", "agree"],
+        Ok(Sealed::Now) => &["holdings", "agree", "sums made"],
+        Ok(Sealed::No) => &["holdings", "agree", "without sums"],
+        Err(failure) if failure.status() == DAMAGED => &["holdings", "damaged"],
+        Err(_) => &["holdings", "failed"],
+    }
 }
 
 fn verdict(name: &Path, seal: bool, wait: Option<Duration>) -> Outcome<Verdict> {
@@ -196,36 +195,6 @@ impl Verdict {
         json!({
             "name": shown(name), "agree": true, "lines": self.lines, "standing": self.standing, "sums": sums,
             "frame_sha256": self.frame,
-        })
-    }
-}
-
-impl Totals {
-    fn add(&mut self, verdict: &Outcome<Verdict>) {
-        self.holdings += 1;
-        match verdict {
-            Ok(verdict) => {
-                self.agree += 1;
-                self.without_sums += u64::from(verdict.sums == Sealed::No);
-                self.sealed += u64::from(verdict.sums == Sealed::Now);
-            }
-            Err(failure) if failure.status() == DAMAGED => self.damaged += 1,
-            Err(_) => self.failed += 1,
-        }
-    }
-
-    fn text(&self) -> String {
-        format!(
-            "{} holdings: {} agree ({} without sums, {} sums made), {} damaged, {} failed, {} not a holding",
-            self.holdings, self.agree, self.without_sums, self.sealed, self.damaged, self.failed, self.not_holdings
-        )
-    }
-
-    fn value(&self) -> Value {
-        json!({
-            "holdings": self.holdings, "agree": self.agree, "without_sums": self.without_sums,
-            "sums_made": self.sealed, "damaged": self.damaged, "failed": self.failed,
-            "not_a_holding": self.not_holdings,
         })
     }
 }
