@@ -101,10 +101,13 @@ impl Run {
     }
 
     fn asked(&self) -> String {
-        let (command, shards) = (self.totals.kind.command(), self.totals.shard.of);
+        let shards = match self.totals.shard.of {
+            1 => "undivided".to_string(),
+            number => format!("in {number} shards"),
+        };
         match &self.totals.kind {
-            Kind::Sweep { day } => format!("`{command}` for {day} in {shards} shards"),
-            Kind::Verify => format!("`{command}` in {shards} shards"),
+            Kind::Sweep { day } => format!("`sweep` for {day} {shards}"),
+            Kind::Verify => format!("`verify` {shards}"),
         }
     }
 }

@@ -52,7 +52,7 @@ pub struct Totals {
 }
 
 impl Kind {
-    pub fn command(&self) -> &'static str {
+    fn command(&self) -> &'static str {
         match self {
             Kind::Sweep { .. } => "sweep",
             Kind::Verify => "verify",

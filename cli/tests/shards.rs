@@ -204,7 +204,7 @@ fn totals_of_different_questions_are_not_added_up() {
     let earlier = "`sweep` for 2031-11-02 in 2 shards";
     totalled(&f, "b c", 1, &[&differ("c", earlier, &format!("b of {sweep}"))], "");
     totalled(&f, "a d", 1, &[&differ("d", "`verify` in 3 shards", &format!("a of {verify}"))], "");
-    totalled(&f, "a e", 1, &[&differ("e", "`verify` in 1 shards", &format!("a of {verify}"))], "");
+    totalled(&f, "a e", 1, &[&differ("e", "`verify` undivided", &format!("a of {verify}"))], "");
 }
 
 #[test]

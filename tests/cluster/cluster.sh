@@ -1,6 +1,6 @@
 # A Slurm cluster of this machine alone, with all its files in the current folder: start_cluster, and stop_cluster whatever
 # has happened. The daemons are those of Debian's packages munge and slurm-wlm, run by the current user and no service.
-started=
+daemons=
 
 start_cluster() {
     host=$(hostname -s)
@@ -42,39 +42,53 @@ CONF
     export SLURM_CONF="$here_is/slurm.conf"
     daemon munged --foreground --force --num-threads=2 --key-file="$here_is/key" --socket="$here_is/munge.socket" \
         --pid-file="$here_is/munged.pid" --log-file="$here_is/munged.log" --seed-file="$here_is/munged.seed"
-    until_true munge --socket="$here_is/munge.socket" --no-input
+    must_answer munge --socket="$here_is/munge.socket" --no-input
     daemon slurmctld -D
-    until_true scontrol ping
+    must_answer scontrol ping
     daemon slurmd -D
-    until_true node_is_idle
+    must_answer node_is_idle
     echo "Slurm $(sinfo --version | cut -d' ' -f2): $(sinfo --noheader --format='%D node, %c CPUs, %T')"
 }
 
 daemon() {
     PATH=$PATH:/usr/sbin "$@" > "cluster/$1.out" 2>&1 &
-    started="$! $started"
+    daemons="$! $daemons"
 }
 
 node_is_idle() {
     [ "$(sinfo --noheader --format=%T)" = idle ]
 }
 
-# Tries for 20 seconds.
-until_true() {
-    for _ in $(seq 100); do
-        "$@" > /dev/null 2>&1 && return
+# within SECONDS WORD...: does this come true?
+within() {
+    end=$(($(date +%s) + $1))
+    shift
+    until "$@" > /dev/null 2>&1; do
+        [ "$(date +%s)" -lt "$end" ] || return 1
         sleep 0.2
     done
+}
+
+must_answer() {
+    within 20 "$@" && return
     tail -n 5 cluster/*.out cluster/*.log >&2
     fail "$1 does not answer"
 }
 
+no_job_is_left() {
+    [ -z "$(squeue --noheader)" ]
+}
+
 # Jobs first, then the daemons in the order opposite to that in which they were started.
 stop_cluster() {
-    case $started in *' '*' '*' '*) scancel --user="$(id -un)" 2> /dev/null || true ;; esac
-    for process in $started; do
+    case $daemons in *' '*' '*' '*)
+        scancel --user="$(id -un)" 2> /dev/null || true
+        within 10 no_job_is_left || true
+        ;;
+    esac
+    for process in $daemons; do
         kill "$process" 2> /dev/null || continue
         wait "$process" 2> /dev/null || true
     done
-    started=
+    daemons=
 }

@@ -9,7 +9,6 @@ day=2031-11-03
 rm -rf "$2"
 mkdir -p "$2"
 cd "$2"
-folder=$(pwd)
 PATH=$(dirname "$command"):$PATH
 export PATH
 
@@ -62,9 +61,9 @@ shards() {
     rm "$@"
 }
 
-trap 'stop_cluster' EXIT
+trap 'stop_cluster; remove_tier' EXIT
 trap 'exit 1' HUP INT TERM
-make_tier
+make_tier > tier.log
 start_cluster
 manual '#!/bin/sh' > night.sh
 array=$(manual 'sbatch --wait night.sh verify')

@@ -1,6 +1,13 @@
 # make_tier: the folder archive with 20,000 holdings of one tiny frame: due, kept, without a date, some damaged, and strangers
-# among them. Needs quayrudder in PATH, $many (the example many_holdings) and $day.
+# among them, in memory where there is such a folder: 60,000 files take minutes on a busy disk. remove_tier takes it away.
+# Needs quayrudder in PATH, and $many, the example many_holdings.
+tier=
+
 make_tier() {
+    memory=/dev/shm
+    [ -d "$memory" ] || memory=$(pwd)
+    tier=$(mktemp -d "$memory/quayrudder-XXXXXX")
+    ln -s "$tier" archive
     mkdir one
     "$here/../../cli/tiny_frame.sh" quayrudder
     for name in none due kept; do quayrudder open one.sfrm --form 1 --room 96 -o "one/$name"; done
@@ -17,4 +24,8 @@ make_tier() {
         rm "archive/due/000${number%???}/h000${number%?}1.sha256" "archive/kept/000${number%???}/h000${number%?}1.sha256"
         echo 'Assets:Bank 100 EUR' > "archive/accounts$number.ledger"
     done
+}
+
+remove_tier() {
+    [ -z "$tier" ] || rm -rf "$tier"
 }
