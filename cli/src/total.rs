@@ -50,6 +50,9 @@ fn read(file: &Path, runs: &mut Vec<Run>) -> Outcome<()> {
         if length.map_err(Failure::machine(&file, "read"))? == 0 {
             break;
         }
+        if bytes.trim_ascii().is_empty() {
+            continue;
+        }
         let found = totals_of(&bytes).map_err(|why| Failure::declined(&file, format!("line {line} {why}")));
         ended = matches!(found, Ok(Some(_)));
         match found {
@@ -144,7 +147,7 @@ fn warn(output: &mut Output, shards: &BTreeMap<u16, &Run>, of: u16, sum: &Totals
     let unread = those(&|totals| totals.unread > 0);
     say("folders could not be read by", &unread, "What they have there is not counted")?;
     // A sweep that takes away leaves ever less to be met.
-    let taken = sum.of("deleted") + sum.of("moved") > 0;
+    let taken = sum.of("deleted") > 0 || sum.of("moved") > 0;
     let nothing = those(&|totals| !taken && totals.met == 0 && sum.met > 0);
     say("no ledger was met by", &nothing, "Others met some: is the tier mounted there? Run them again")?;
     Ok(missing)

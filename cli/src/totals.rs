@@ -122,10 +122,10 @@ impl Totals {
         value
     }
 
-    /// The totals of a line, where it has any; an error where they are none that this command writes.
+    /// The totals of a line, where it has any; an error where they are of another command or version.
     pub fn read(line: &Value) -> Option<Result<Totals, String>> {
         let counts = line.get("totals")?.as_object()?;
-        Some(read(line, counts).ok_or_else(|| "has totals that are not this command's".to_string()))
+        Some(read(line, counts).ok_or_else(|| "has totals that no `sweep` or `verify` of this version writes".into()))
     }
 
     /// What each run met and could not read is the same on every machine where nothing is wrong, and is not added.

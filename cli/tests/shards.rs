@@ -213,7 +213,7 @@ fn a_run_cut_short_is_said() {
     f.put("1.json", LINE.to_owned() + &verified("1/2", 9, 0, 0));
     f.put("2.json", LINE.repeat(3));
     f.put("empty.json", "");
-    f.put("after.json", verified("2/2", 9, 0, 0) + LINE);
+    f.put("after.json", verified("2/2", 9, 0, 0) + LINE + "\n");
     let cut = |file: &str| format!("{file}: does not end with totals: the run did not end. Run its shard again");
     let missing = "--shard: missing are 2 of 2. Run them, and give what they write too";
     let part =
@@ -248,7 +248,7 @@ fn totals_that_are_not_the_commands_are_not_taken() {
     ];
     for text in wrong {
         f.put("a", format!("{LINE}{text}"));
-        totalled(&f, "a", 1, &["a: line 2 has totals that are not this command's"], "");
+        totalled(&f, "a", 1, &["a: line 2 has totals that no `sweep` or `verify` of this version writes"], "");
     }
     let most = verified("1/2", 9, 0, 0).replace("\"agree\":2", &format!("\"agree\":{}", u64::MAX));
     f.put("a", most + &verified("2/2", 9, 0, 0));
