@@ -102,7 +102,8 @@ pub enum Command {
     /// Ask every ledger below a folder whether its holding may be purged; it goes only with --into or --delete
     #[command(after_help = "Examples:\n  quayrudder sweep archive --day 2031-11-03\n  \
                             quayrudder sweep archive --into bin\n  \
-                            quayrudder sweep bin --delete --log purge.log")]
+                            quayrudder sweep bin --delete --log purge.log\n  \
+                            quayrudder sweep archive --shard 3/8 --json > night.3.json")]
     Sweep(Sweep),
     /// Add up the totals of `sweep --json` or `verify --json` in shards, and say which shards are missing
     #[command(after_help = "Examples:\n  quayrudder total night.*.json\n  cat night.*.json | quayrudder total -")]

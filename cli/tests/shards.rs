@@ -280,6 +280,20 @@ fn a_machine_that_does_not_see_the_whole_tier_is_named() {
     f.put("a", verified("1/2", 9, 1, 3) + &verified("2/2", 9, 0, 0));
     let unread = "--shard: folders could not be read by 1 of 2. What they have there is not counted";
     totalled(&f, "a", 3, &[unread], sum);
+    // A sweep that takes everything away leaves nothing for the last shard to meet.
+    let swept = |shard: &str, met: u32, gone: &str| {
+        let counts = r#""ledgers":3,"yes":0,"deleted":0,"moved":0,"not_yet":0,"no_keep_line":0,"refused":0,"failed":0,"not_a_holding":0"#;
+        let counts = counts.replace(&format!(r#""{gone}":0"#), &format!(r#""{gone}":3"#));
+        let rest =
+            format!(r#""command":"sweep","day":"2031-11-03","shard":"{shard}","met":{met},"unread":0,"status":0"#);
+        format!("{{\"totals\":{{{counts}}},{rest}}}\n")
+    };
+    for gone in ["deleted", "moved"] {
+        f.put("a", swept("1/2", 3, gone) + &swept("2/2", 0, "not_yet"));
+        assert_eq!(f.run("total a").status, Some(0), "{gone}");
+    }
+    f.put("a", swept("1/2", 3, "yes") + &swept("2/2", 0, "not_yet"));
+    assert_eq!(f.run("total a").status, Some(1));
 }
 
 #[test]
