@@ -58,7 +58,6 @@ shards() {
     cat "$@" | grep -v '^{"totals"' | sort > lines
     cmp lines expected || fail "$how says other lines than the plain run"
     echo "          $(wc -l < lines) lines, each in one shard: $(cat "$@" | grep -c '^{"totals"') shards"
-    rm "$@"
 }
 
 trap 'stop_cluster; remove_tier' EXIT
@@ -68,13 +67,18 @@ start_cluster
 manual '#!/bin/sh' > night.sh
 array=$(manual 'sbatch --wait night.sh verify')
 line=$(manual 'parallel ')
+parts=$(seq -f 'night.%g.json' 8)
 echo : > machines
 
 plain verify verify archive
-shards 'Slurm:   ' verify "$array" $(seq -f 'night.%g.json' 8)
+shards 'Slurm:   ' verify "$array" $parts
+rm night.3.json
+quayrudder total night.*.json 2>&1 | grep -q 'missing are 3 of 8' || fail "shard 3 is missing, and total does not say so"
+shards 'again 3: ' verify "$(manual 'sbatch --wait --array=3 ')" $parts
 shards 'parallel:' verify "$line" night.json
 plain sweep sweep archive --day "$day"
 asked() { printf '%s\n' "$1" | sed "s/verify archive/sweep archive --day $day/"; }
-shards 'Slurm:   ' sweep "$(asked "$array")" $(seq -f 'night.%g.json' 8)
+rm $parts night.json
+shards 'Slurm:   ' sweep "$(asked "$array")" $parts
 shards 'parallel:' sweep "$(asked "$line")" night.json
 echo "cluster-test: the shards are one plain run"
