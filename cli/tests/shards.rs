@@ -148,6 +148,28 @@ fn a_shard_takes_away_and_clears_only_what_is_its_own() {
     assert_eq!((deleted, left(&names()), f.has("tier/quayrudder-purge.log")), (due, 0, false));
 }
 
+#[test]
+fn shards_that_delete_at_once_delete_all_and_nothing_twice() {
+    let f = folder();
+    tier(&f, "tier");
+    let start = |number: u32| {
+        let mut sweep = command_on(DUE);
+        sweep.args(["sweep", "tier", "--delete", "--json", &format!("--shard={number}/3")]);
+        sweep.current_dir(f.path()).stdout(Stdio::piped()).stderr(Stdio::piped()).spawn().unwrap()
+    };
+    let running: Vec<_> = (1..=3).map(start).collect();
+    for (number, sweep) in (1..).zip(running) {
+        let ran = ran(sweep.wait_with_output().unwrap());
+        assert_eq!(ran.err, "");
+        f.put(&format!("{number}.json"), ran.out);
+    }
+    let total = f.run(&format!("total{}", files(3)));
+    let gone =
+        "80 ledgers: 0 yes, 28 deleted, 0 moved, 0 not yet, 8 no keep line, 4 refused, 0 failed, 40 not a holding\n";
+    assert_eq!((total.status, total.out.as_str(), total.err.as_str()), (Some(4), gone, ""));
+    assert!(!f.run_on(DUE, "sweep tier").out.contains("yes  "));
+}
+
 /// Totals as a run of `verify` writes them.
 fn verified(shard: &str, met: u32, unread: u32, status: u32) -> String {
     format!(
