@@ -145,6 +145,13 @@ model:
 	@tools/deps gcc spin
 	@tests/model/run.sh target/model
 
+.PHONY: cluster-test
+
+# The manual's Slurm job array and GNU parallel line over 20,000 holdings, against one plain run. Not in the gate: it needs large packages.
+cluster-test: cli
+	@tools/deps munge parallel slurm-wlm
+	@tests/cluster/run.sh $(CLI) target/cluster
+
 # The main job on an example frame: README's first command.
 demo: cli
 	@cli/demo.sh $(CLI) target/demo

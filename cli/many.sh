@@ -4,6 +4,7 @@
 # copies of one holding are swept and verified, and two thousand of them moved and deleted. The folder is made anew and
 # removed; it takes 5 gigabytes. Needs GNU time.
 set -eu
+here=$(realpath "$(dirname "$0")")
 command=$(realpath "$1")
 examples=$(dirname "$command")/examples
 number=${3:-200000}
@@ -29,14 +30,7 @@ run verify --below archive
 run sweep archive --day 2040-01-02
 rm -rf frames archive
 
-# A header of 96 lines and a frame of 4 rows of 4 pixels.
-awk 'BEGIN {
-    split("0=FORMAT :100|1=VERSION:11|2=HDRBLKS:15|20=NOVERFL:-1 0 0|39=NPIXELB:1 0|40=NROWS  :4|41=NCOLS  :4|58=LINEAR :1 0", lines, "|")
-    for (i in lines) { split(lines[i], pair, "="); said[pair[1]] = pair[2] }
-    for (i = 0; i < 96; i++) printf "%-80s", said[i]
-}' > header.bin
-head -c 64 /dev/zero > counts.raw
-"$command" write --header header.bin --pixels counts.raw --form 1 -o one.sfrm
+"$here/tiny_frame.sh" "$command"
 "$command" open one.sfrm --form 1 --room 96 -o one/t
 "$command" correct one/t 3 99
 "$command" keep one/t 2001-01-01 --shorten

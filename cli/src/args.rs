@@ -1,6 +1,7 @@
 //! The command line.
 use crate::given::{Dated, Names};
 use crate::pixels::Format;
+use crate::shard::{self, Shard};
 use clap::{Arg, Args, Parser, Subcommand};
 use quayrudder::{Date, Form};
 use std::path::PathBuf;
@@ -104,14 +105,23 @@ pub enum Command {
     #[command(
         mut_arg("names", holdings_or_folders),
         after_help = "Examples:\n  quayrudder verify lyso1 lyso2\n  quayrudder verify archive\n  \
-                            quayrudder verify archive --seal"
+                            quayrudder verify archive --seal\n  \
+                            quayrudder verify archive --shard 3/8 --json > night.3.json"
     )]
     Verify(Verify),
     /// Ask every ledger below a folder whether its holding may be purged; it goes only with --into or --delete
     #[command(after_help = "Examples:\n  quayrudder sweep archive --day 2031-11-03\n  \
                             quayrudder sweep archive --into bin\n  \
-                            quayrudder sweep bin --delete --log purge.log")]
+                            quayrudder sweep bin --delete --log purge.log\n  \
+                            quayrudder sweep archive --shard 3/8 --json > night.3.json")]
     Sweep(Sweep),
+    /// Add up the totals of `sweep --json` or `verify --json` in shards, and say which shards are missing
+    #[command(after_help = "Examples:\n  quayrudder total night.*.json\n  cat night.*.json | quayrudder total -")]
+    Total {
+        /// What the runs have written, `-` for standard input
+        #[arg(required = true, value_name = "FILE")]
+        files: Vec<PathBuf>,
+    },
 }
 
 // What the names of each command are.
@@ -247,6 +257,9 @@ pub struct Verify {
     /// Make the sums of holdings that agree and have none
     #[arg(long)]
     pub seal: bool,
+    /// Check only this part of what lies below the folders, the K-th of N [default: all of it]
+    #[arg(long, value_name = "K/N", default_value = "1/1", hide_default_value = true, value_parser = shard::parse)]
+    pub shard: Shard,
 }
 
 #[derive(Args)]
@@ -263,9 +276,12 @@ pub struct Sweep {
     /// Delete each holding that may be purged, asked again just before
     #[arg(long)]
     pub delete: bool,
-    /// The log of what went [default: DIR/quayrudder-purge.log]
+    /// The log of what went [default: DIR/quayrudder-purge.log, with --shard DIR/quayrudder-purge.K-of-N.log]
     #[arg(long, value_name = "FILE")]
     pub log: Option<PathBuf>,
+    /// Ask only this part of the ledgers, the K-th of N [default: all of them]
+    #[arg(long, value_name = "K/N", default_value = "1/1", hide_default_value = true, value_parser = shard::parse)]
+    pub shard: Shard,
 }
 
 #[derive(Clone, Copy, Debug, PartialEq, Eq)]

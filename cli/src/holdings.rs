@@ -10,6 +10,7 @@ use crate::names::{self, Doubled, Item};
 use crate::output::Output;
 use crate::refusals::sentence;
 use crate::room;
+use crate::shard::Shard;
 use quayrudder::Date;
 use serde_json::{json, Value};
 use std::path::Path;
@@ -27,7 +28,7 @@ fn each(
     done: &[&'static str],
     work: impl Fn(&Holding, bool) -> Outcome<Said> + Sync,
 ) -> Outcome<()> {
-    let found = names::holdings(asked, |_| false)?;
+    let found = names::holdings(asked, Shard::WHOLE, |_| false)?;
     let wait = found.wait(wait);
     let name = |item: &Item| Holding::named(&item.path, None).map_or(item.path.clone(), |holding| holding.name);
     let doubled = match done {

@@ -27,9 +27,12 @@ mod refusals;
 mod removal;
 mod room;
 mod rows;
+mod shard;
 mod sums;
 mod sweep;
 mod table;
+mod total;
+mod totals;
 mod verify;
 mod walk;
 
@@ -88,5 +91,6 @@ fn run(output: &mut Output, command: Command, seconds: Option<u32>) -> Outcome<(
             let seconds = seconds.unwrap_or(SWEEP_WAIT);
             sweep::sweep(output, &asked, Duration::from_secs(seconds.into()))
         }
+        Command::Total { files } => total::total(output, &files),
     }
 }

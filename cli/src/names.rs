@@ -5,6 +5,7 @@ use crate::files;
 use crate::given::Names;
 use crate::holding::Holding;
 use crate::output::Output;
+use crate::shard::Shard;
 use crate::walk::{self, Kind};
 use std::collections::HashSet;
 use std::ffi::OsStr;
@@ -51,7 +52,8 @@ pub struct Item {
 pub struct Found {
     pub things: Things,
     pub items: Vec<Item>,
-    pub unread: Vec<Failure>,
+    /// What the walks met, but for the names.
+    pub walked: walk::Found,
     /// Ledgers that belong to nothing.
     pub not_holdings: u64,
     /// Is this more than one name that was given?
@@ -61,6 +63,10 @@ pub struct Found {
 }
 
 impl Item {
+    pub fn is_below(&self) -> bool {
+        self.below.is_some()
+    }
+
     /// The path that an output keeps: that below the folder, or else the name alone.
     pub fn rest(&self) -> &Path {
         let name = self.path.file_name().map_or(self.path.as_path(), Path::new);
@@ -69,15 +75,15 @@ impl Item {
 }
 
 /// Holdings, by name or below folders. Some names may stand for a folder themselves.
-pub fn holdings(asked: &Names, is_folder: impl Fn(&Path) -> bool) -> Outcome<Found> {
+pub fn holdings(asked: &Names, shard: Shard, is_folder: impl Fn(&Path) -> bool) -> Outcome<Found> {
     let mut found = Found::new(Things::Holdings, asked);
     for path in words(asked)? {
         match is_folder(&path) {
-            true => found.add_holdings(&path)?,
+            true => found.add_holdings(&path, shard)?,
             false => found.items.push(Item { path, below: None }),
         }
     }
-    asked.below.iter().try_for_each(|folder| found.add_holdings(folder))?;
+    asked.below.iter().try_for_each(|folder| found.add_holdings(folder, shard))?;
     Ok(found)
 }
 
@@ -88,7 +94,7 @@ pub fn frames(asked: &Names, outputs: Option<&Path>) -> Outcome<Found> {
     for folder in &asked.below {
         let inside = outputs.and_then(|outputs| walk::inside(outputs, folder)).filter(|inside| inside != folder);
         let walked = walk::frames(folder, inside.as_deref())?;
-        found.unread.extend(walked.unread);
+        found.walked.unread.extend(walked.unread);
         found.add(folder, walked.files);
     }
     Ok(found)
@@ -121,13 +127,15 @@ pub fn read(file: &Path) -> Outcome<Vec<u8>> {
 impl Found {
     fn new(things: Things, asked: &Names) -> Found {
         let (many, listed) = (asked.single().is_none(), asked.is_listed());
-        Found { things, items: Vec::new(), unread: Vec::new(), not_holdings: 0, many, listed }
+        Found { things, items: Vec::new(), walked: walk::Found::default(), not_holdings: 0, many, listed }
     }
 
     /// The holdings below a folder.
-    fn add_holdings(&mut self, folder: &Path) -> Outcome<()> {
-        let walked = walk::find(folder, None)?;
-        self.unread.extend(walked.unread);
+    fn add_holdings(&mut self, folder: &Path, shard: Shard) -> Outcome<()> {
+        let walked = walk::find(folder, None, shard)?;
+        self.walked.unread.extend(walked.unread);
+        self.walked.own_unread += walked.own_unread;
+        self.walked.met += walked.met;
         let mut holdings = Vec::new();
         for (name, lies) in walked.names {
             match lies.kind(&name) {
@@ -160,7 +168,7 @@ impl Found {
         work: impl Fn(&Item) -> Outcome<Said> + Sync,
     ) -> Outcome<()> {
         let (things, mut tally) = (self.things, Tally::new(self.things.name(), done));
-        for failure in &self.unread {
+        for failure in &self.walked.unread {
             tally.add(batch::word_of(failure));
             output.failed(failure)?;
         }

@@ -10,6 +10,8 @@ use crate::output::{progress, Output};
 use crate::purge_log::Log;
 use crate::refusals::sentence;
 use crate::removal::Interrupted;
+use crate::shard::Shard;
+use crate::totals::{self, Totals};
 use crate::walk::{self, Kind, Lies};
 use quayrudder::Date;
 use rayon::prelude::*;
@@ -34,19 +36,6 @@ enum Answer {
     NotAHolding,
 }
 
-#[derive(Default)]
-struct Totals {
-    ledgers: u64,
-    yes: u64,
-    deleted: u64,
-    moved: u64,
-    not_yet: u64,
-    no_keep_line: u64,
-    refused: u64,
-    failed: u64,
-    not_a_holding: u64,
-}
-
 /// What is to be done with a holding that may go.
 struct Job<'a> {
     folder: &'a Path,
@@ -55,17 +44,18 @@ struct Job<'a> {
     /// Moved into this folder, where one is named; else deleted.
     into: Option<&'a Path>,
     wait: Duration,
+    shard: Shard,
 }
 
 pub fn sweep(output: &mut Output, asked: &Sweep, wait: Duration) -> Outcome<()> {
     let day = asked.day.unwrap_or_else(clock::today);
     let removes = asked.delete || asked.into.is_some();
-    let job = Job { folder: &asked.folder, day, removes, into: asked.into.as_deref(), wait };
+    let job = Job { folder: &asked.folder, day, removes, into: asked.into.as_deref(), wait, shard: asked.shard };
     job.must_be_a_day()?;
-    let found = walk::find(&asked.folder, job.left_out()?.as_deref())?;
+    let found = walk::find(&asked.folder, job.left_out()?.as_deref(), asked.shard)?;
     let mut log = if removes { Some(job.log(asked.log.as_deref())?) } else { None };
-    let mut totals = Totals { failed: found.unread.len() as u64, ..Totals::default() };
-    found.unread.iter().try_for_each(|failure| output.failed(failure))?;
+    let mut totals = Totals::new(totals::Kind::Sweep { day: date_text(day) }, asked.shard);
+    totals.begin(output, &found)?;
     let names: Vec<(PathBuf, Lies)> = found.names.into_iter().collect();
     let bar = progress(names.len() as u64, "ledgers");
     for batch in names.chunks(BATCH) {
@@ -74,7 +64,7 @@ pub fn sweep(output: &mut Output, asked: &Sweep, wait: Duration) -> Outcome<()> 
         bar.suspend(|| job.say_batch(output, batch, answers, &mut log, &mut totals))?;
     }
     bar.finish_and_clear();
-    output.say(&totals.text(), &json!({"totals": totals.value()}))
+    totals.say(output)
 }
 
 impl Job<'_> {
@@ -101,8 +91,16 @@ impl Job<'_> {
     }
 
     fn log(&self, named: Option<&Path>) -> Outcome<Log> {
-        let usual = || self.folder.join("quayrudder-purge.log");
+        let usual = || self.folder.join(self.usual_log());
         Log::open(named.map_or_else(usual, Path::to_path_buf), &date_text(self.day))
+    }
+
+    /// One for each shard: two machines that append to one file over a network may lose entries.
+    fn usual_log(&self) -> String {
+        match self.shard {
+            Shard::WHOLE => "quayrudder-purge.log".into(),
+            Shard { number, of } => format!("quayrudder-purge.{number}-of-{of}.log"),
+        }
     }
 
     /// The holding of a ledger that was found. Its name ends in none of a holding's endings, or they are part of it.
@@ -169,7 +167,7 @@ impl Job<'_> {
                 (Some(Answer::Yes), Some(log)) => self.remove(name, lies, log)?,
                 (Some(found), _) => found,
             };
-            totals.add(&last);
+            totals.count(&["ledgers", last.word()]);
             output.status(last.status());
             let said = output.say(&last.text(name), &last.value(name));
             said.map_err(|failure| failure.so(format!("The sweep ended at {}.", shown(name))))?;
@@ -276,49 +274,6 @@ impl Answer {
             Answer::Refused { number } => value["refusal"] = json!(number),
             Answer::Failed { why, .. } => value["failed"] = json!(why),
             _ => {}
-        }
-        value
-    }
-}
-
-impl Totals {
-    fn add(&mut self, answer: &Answer) {
-        self.ledgers += 1;
-        *match answer {
-            Answer::Yes => &mut self.yes,
-            Answer::Deleted => &mut self.deleted,
-            Answer::Moved { .. } => &mut self.moved,
-            Answer::NotYet { .. } => &mut self.not_yet,
-            Answer::NoKeepLine => &mut self.no_keep_line,
-            Answer::Refused { .. } => &mut self.refused,
-            Answer::Failed { .. } => &mut self.failed,
-            Answer::NotAHolding => &mut self.not_a_holding,
-        } += 1;
-    }
-
-    /// Each total with its name.
-    fn each(&self) -> [(&'static str, u64); 8] {
-        [
-            ("yes", self.yes),
-            ("deleted", self.deleted),
-            ("moved", self.moved),
-            ("not yet", self.not_yet),
-            ("no keep line", self.no_keep_line),
-            ("refused", self.refused),
-            ("failed", self.failed),
-            ("not a holding", self.not_a_holding),
-        ]
-    }
-
-    fn text(&self) -> String {
-        let each = self.each().map(|(word, number)| format!("{number} {word}"));
-        format!("{} ledgers: {}", self.ledgers, each.join(", "))
-    }
-
-    fn value(&self) -> Value {
-        let mut value = json!({"ledgers": self.ledgers});
-        for (word, number) in self.each() {
-            value[word.replace(' ', "_")] = json!(number);
         }
         value
     }

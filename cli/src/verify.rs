@@ -1,28 +1,19 @@
 //! The check of holdings, by name or all those below a folder: files against their sums, held frame against ledger.
 use crate::args::Verify;
 use crate::batch;
-use crate::failure::{shown, Outcome, DAMAGED};
+use crate::failure::{shown, Failure, Outcome, DAMAGED};
 use crate::holding::{Change, Contents, Holding};
 use crate::holdings::accepted;
 use crate::ledger::{self, Lent};
-use crate::names::{self, Item};
+use crate::names::{self, Found, Item};
 use crate::output::Output;
 use crate::room;
+use crate::shard::Shard;
 use crate::sums;
+use crate::totals::{self, Totals};
 use serde_json::{json, Value};
 use std::path::Path;
 use std::time::Duration;
-
-#[derive(Default)]
-struct Totals {
-    holdings: u64,
-    agree: u64,
-    without_sums: u64,
-    sealed: u64,
-    damaged: u64,
-    failed: u64,
-    not_holdings: u64,
-}
 
 /// What a holding that agrees has.
 struct Verdict {
@@ -40,15 +31,18 @@ enum Sealed {
 }
 
 pub fn verify(output: &mut Output, asked: &Verify, wait: Option<Duration>) -> Outcome<()> {
-    let found = names::holdings(&asked.names, is_folder)?;
+    let mut totals = Totals::new(totals::Kind::Verify, asked.shard);
+    let found = names::holdings(&asked.names, asked.shard, is_folder)?;
+    if asked.shard != Shard::WHOLE {
+        must_be_folders(&found)?;
+    }
     let wait = found.wait(wait);
-    found.unread.iter().try_for_each(|failure| output.failed(failure))?;
-    let failed = found.unread.len() as u64;
-    let mut totals = Totals { failed, not_holdings: found.not_holdings, ..Totals::default() };
+    totals.begin(output, &found.walked)?;
+    totals.count_many("not a holding", found.not_holdings);
     let work = |item: &Item| verdict(&item.path, asked.seal, wait);
     let (things, length) = (found.things.name(), |item: &Item| found.things.length(item));
     batch::run(output, &found.items, things, length, work, |output, item, verdict| {
-        totals.add(&verdict);
+        totals.count(counted(&verdict));
         match verdict {
             Ok(verdict) => {
                 let name = Holding::named(&item.path, None)?.name;
@@ -58,7 +52,7 @@ pub fn verify(output: &mut Output, asked: &Verify, wait: Option<Duration>) -> Ou
         }
     })?;
     if found.listed {
-        output.say(&totals.text(), &json!({"totals": totals.value()}))
+        totals.say(output)
     } else {
         Ok(())
     }
@@ -67,6 +61,25 @@ pub fn verify(output: &mut Output, asked: &Verify, wait: Option<Duration>) -> Ou
 /// A folder stands for the holdings below it, unless there is a holding of its name.
 fn is_folder(path: &Path) -> bool {
     path.is_dir() && !Holding::named(path, None).is_ok_and(|holding| holding.must_exist().is_ok())
+}
+
+/// Only a name below a folder is in a shard.
+fn must_be_folders(found: &Found) -> Outcome<()> {
+    match found.items.iter().find(|item| !item.is_below()) {
+        Some(item) => Err(Failure::Usage(format!("--shard divides folders, and `{}` is none", shown(&item.path)))),
+        None => Ok(()),
+    }
+}
+
+/// The words under which a verdict is counted.
+fn counted(verdict: &Outcome<Verdict>) -> &'static [&'static str] {
+    match verdict.as_ref().map(|verdict| verdict.sums) {
+        Ok(Sealed::Before) => &["holdings", "agree"],
+        Ok(Sealed::Now) => &["holdings", "agree", "sums made"],
+        Ok(Sealed::No) => &["holdings", "agree", "without sums"],
+        Err(failure) if failure.status() == DAMAGED => &["holdings", "damaged"],
+        Err(_) => &["holdings", "failed"],
+    }
 }
 
 fn verdict(name: &Path, seal: bool, wait: Option<Duration>) -> Outcome<Verdict> {
@@ -143,36 +156,6 @@ impl Verdict {
         json!({
             "name": shown(name), "agree": true, "lines": self.lines, "standing": self.standing, "sums": sums,
             "frame_sha256": self.frame,
-        })
-    }
-}
-
-impl Totals {
-    fn add(&mut self, verdict: &Outcome<Verdict>) {
-        self.holdings += 1;
-        match verdict {
-            Ok(verdict) => {
-                self.agree += 1;
-                self.without_sums += u64::from(verdict.sums == Sealed::No);
-                self.sealed += u64::from(verdict.sums == Sealed::Now);
-            }
-            Err(failure) if failure.status() == DAMAGED => self.damaged += 1,
-            Err(_) => self.failed += 1,
-        }
-    }
-
-    fn text(&self) -> String {
-        format!(
-            "{} holdings: {} agree ({} without sums, {} sums made), {} damaged, {} failed, {} not a holding",
-            self.holdings, self.agree, self.without_sums, self.sealed, self.damaged, self.failed, self.not_holdings
-        )
-    }
-
-    fn value(&self) -> Value {
-        json!({
-            "holdings": self.holdings, "agree": self.agree, "without_sums": self.without_sums,
-            "sums_made": self.sealed, "damaged": self.damaged, "failed": self.failed,
-            "not_a_holding": self.not_holdings,
         })
     }
 }

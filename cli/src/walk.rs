@@ -2,6 +2,7 @@
 use crate::failure::{Failure, Outcome};
 use crate::files;
 use crate::redo;
+use crate::shard::Shard;
 use std::collections::BTreeMap;
 use std::fs::{self, File};
 use std::io::Read;
@@ -29,11 +30,16 @@ pub enum Kind {
     Nothing,
 }
 
-/// Names in path order, and what could not be walked.
+/// The names of one shard in path order, and what could not be walked.
 #[derive(Default)]
 pub struct Found {
     pub names: BTreeMap<PathBuf, Lies>,
+    /// Every shard lacks what lies there.
     pub unread: Vec<Failure>,
+    /// How many of these belong to this shard.
+    pub own_unread: u64,
+    /// Ledgers, those of other shards too.
+    pub met: u64,
 }
 
 impl Lies {
@@ -66,11 +72,14 @@ fn is_record(path: &Path) -> bool {
     File::open(path).and_then(|mut file| file.read_exact(&mut start)).is_ok() && start == redo::START
 }
 
-/// Walks a folder, but for one that is left out.
-pub fn find(folder: &Path, but: Option<&Path>) -> Outcome<Found> {
+/// Walks a folder, but for one that is left out. Names of other shards are not kept.
+pub fn find(folder: &Path, but: Option<&Path>, shard: Shard) -> Outcome<Found> {
     let mut found = Found::default();
     let wanted = |entry: &DirEntry| but.is_none_or(|but| entry.path() != but);
-    found.unread = walk(folder, wanted, |entry| found.note(entry.path()))?;
+    for (path, failure) in walk(folder, wanted, |entry| found.note(entry.path(), |name| shard.has(folder, name)))? {
+        found.own_unread += u64::from(shard.has(folder, &path));
+        found.unread.push(failure);
+    }
     found.names.retain(|_, lies| lies.ledger || lies.redo || lies.lock || !lies.leftovers.is_empty());
     Ok(found)
 }
@@ -92,7 +101,7 @@ pub fn frames(folder: &Path, but: Option<&Path>) -> Outcome<Files> {
         }
     })?;
     files.sort();
-    Ok(Files { files, unread })
+    Ok(Files { files, unread: unread.into_iter().map(|(_, failure)| failure).collect() })
 }
 
 /// A folder that lies in another, or is the same, by the other one's path.
@@ -101,25 +110,37 @@ pub fn inside(folder: &Path, outer: &Path) -> Option<PathBuf> {
     folder.strip_prefix(&whole).ok().map(|rest| outer.join(rest))
 }
 
-/// Notes everything below a folder that is no folder, and gives what could not be walked.
-fn walk(folder: &Path, wanted: impl Fn(&DirEntry) -> bool, mut note: impl FnMut(DirEntry)) -> Outcome<Vec<Failure>> {
+/// Notes everything below a folder that is no folder, and gives the paths that could not be walked.
+fn walk(
+    folder: &Path,
+    wanted: impl Fn(&DirEntry) -> bool,
+    mut note: impl FnMut(DirEntry),
+) -> Outcome<Vec<(PathBuf, Failure)>> {
     fs::read_dir(folder).map_err(Failure::machine(folder, "read"))?;
     let mut unread = Vec::new();
     for entry in WalkDir::new(folder).into_iter().filter_entry(wanted) {
         match entry {
             Ok(entry) if !entry.file_type().is_dir() => note(entry),
             Ok(_) => {}
-            Err(error) => unread.push(walk_failure(folder, error)),
+            Err(error) => {
+                let path = error.path().unwrap_or(folder).to_path_buf();
+                let failure = Failure::machine(&path, "walk")(error.into());
+                unread.push((path, failure));
+            }
         }
     }
     Ok(unread)
 }
 
 impl Found {
-    fn note(&mut self, path: &Path) {
+    fn note(&mut self, path: &Path, is_own: impl Fn(&Path) -> bool) {
         let staged = path.file_name().and_then(files::staged_for);
         let file = staged.map(|name| path.with_file_name(name));
         let Some((name, ending)) = split(file.as_deref().unwrap_or(path)) else { return };
+        self.met += u64::from(staged.is_none() && ending == "ledger");
+        if !is_own(&name) {
+            return;
+        }
         let lies = self.names.entry(name).or_default();
         match staged {
             Some(_) => lies.leftovers.push(path.into()),
@@ -135,9 +156,4 @@ fn split(path: &Path) -> Option<(PathBuf, &str)> {
         .contains(&ending)
         .then(|| (path.with_extension(""), ending))
         .filter(|(name, _)| name.file_name().is_some())
-}
-
-fn walk_failure(folder: &Path, error: walkdir::Error) -> Failure {
-    let path = error.path().unwrap_or(folder).to_path_buf();
-    Failure::machine(&path, "walk")(error.into())
 }

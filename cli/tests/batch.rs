@@ -326,9 +326,9 @@ fn a_holding_without_room_is_corrected_all_the_same() {
     f.done("open a.sfrm --form 1+2 --room 0 -o a");
     let length = |f: &Folder| f.get("a.held").len();
     let (start, mut longest) = (length(&f), 0);
-    // Seventeen of each kind, so that every table takes a second line of 16 bytes: below the baseline, of two bytes, of four.
+    // Seventeen of each kind, so that every table takes a second line of 16 bytes: of four bytes (and of two: 32 at once), below the baseline, of two.
     for step in 0..51 {
-        let (pixel, count) = (step, [3, 300, 70_000][step % 3]);
+        let (pixel, count) = (step, [70_000, 3, 300][step % 3]);
         assert!(f.done(&format!("correct a {pixel} {count}")).contains(&format!("from 60 to {count}\n")));
         let said = f.done("verify a");
         assert!(said.contains(&format!("{} lines, {} standing", step + 1, step + 1)), "{said}");

@@ -2,10 +2,12 @@
    FAULT=before, after: killed before or after the call; torn: killed with half of a write done; a number: the call fails with this errno.
    FAULT=readonly: every call that would make, rename or remove a file fails with EROFS.
    FAULT_LOG names a file that gets a line for each call. FAULT_MARK names one that is made when call FAULT_AT comes.
+   FAULT_OPENDIR: folders of this name cannot be read.
    FAULT_CLOCK: the time of day in seconds, which stands still. FAULT_RENAMEAT2: every renameat2 fails with this errno.
    FAULT_RUN: a shell command that is run, without this library, once before the call that FAULT_RUN_AT names by its line, or else before
    every call, with the line in CALL. For this, opening a file to read is a call too. */
 #define _GNU_SOURCE
+#include <dirent.h>
 #include <dlfcn.h>
 #include <errno.h>
 #include <fcntl.h>
@@ -156,6 +158,14 @@ int clock_gettime(clockid_t clock, struct timespec *now) {
     int answer = syscall(SYS_clock_gettime, clock, now);
     if (set && clock == CLOCK_REALTIME) *now = (struct timespec){atol(set), 0};
     return answer;
+}
+DIR *opendir(const char *path) {
+    const char *locked = getenv("FAULT_OPENDIR"), *name = strrchr(path, '/');
+    if (locked && !strcmp(name ? name + 1 : path, locked)) {
+        errno = EACCES;
+        return NULL;
+    }
+    return ((DIR *(*)(const char *))dlsym(RTLD_NEXT, "opendir"))(path);
 }
 int unlink(const char *path) {
     ON("unlink", path, 1);

@@ -7,20 +7,32 @@ mod args;
 mod digest;
 #[path = "../src/failure.rs"]
 mod failure;
+#[path = "../src/files.rs"]
+mod files;
 #[path = "../src/given.rs"]
 mod given;
 #[path = "../src/ledger.rs"]
 mod ledger;
+#[path = "../src/output.rs"]
+mod output;
 #[path = "../src/pixels.rs"]
 mod pixels;
 #[path = "../src/redo.rs"]
 mod redo;
 #[path = "../src/refusals.rs"]
 mod refusals;
+#[path = "../src/shard.rs"]
+mod shard;
 #[path = "../src/sums.rs"]
 mod sums;
 #[path = "../src/table.rs"]
 mod table;
+#[path = "../src/total.rs"]
+mod total;
+#[path = "../src/totals.rs"]
+mod totals;
+#[path = "../src/walk.rs"]
+mod walk;
 
 use digest::{Digest, State};
 use std::alloc::{GlobalAlloc, Layout, System};
@@ -198,6 +210,15 @@ fn dates_forms_and_pixels() {
         let word = text(bytes);
         args::parse_date(&word).is_ok() | args::parse_form(&word).is_ok() | args::parse_place(&word).is_ok()
     });
+}
+
+#[test]
+fn totals_lines() {
+    let whole = shard::Shard::WHOLE;
+    let sweep = totals::Totals::new(totals::Kind::Sweep { day: "2031-11-03".into() }, whole);
+    let lines = [sweep, totals::Totals::new(totals::Kind::Verify, whole)].map(|totals| totals.value().to_string());
+    let samples = lines.map(String::into_bytes);
+    feed(6, &samples, |bytes| shard::parse(&text(bytes)).is_ok() | matches!(total::totals_of(bytes), Ok(Some(_))));
 }
 
 #[test]
