@@ -1,4 +1,6 @@
 //! The command line.
+use crate::formats::{self, Format};
+use crate::options::{ExpandOptions, InfoOptions, ViewOptions};
 use clap::{Args, Parser, Subcommand};
 use quayrudder::{Date, Form};
 use std::path::PathBuf;
@@ -28,17 +30,18 @@ pub struct Cli {
 #[derive(Subcommand)]
 pub enum Command {
     /// Say what frames, mar images and d*TREK images are: format, size, form, counts and end, or why they are refused
-    #[command(after_help = "Example:\n  quayrudder info lysozyme_01_0001.sfrm")]
-    Info {
-        /// The frames or images
-        #[arg(required = true, value_name = "FRAME")]
-        frames: Vec<PathBuf>,
-    },
-    /// Write the counts of a frame or image as .npy, .raw (32 bits, least significant byte first) or .pgm (16 bits)
-    #[command(after_help = "Example:\n  quayrudder expand lysozyme_01_0001.sfrm -o counts.npy")]
+    #[command(after_help = "Examples:\n  quayrudder info lysozyme_01_0001.sfrm\n  \
+                            quayrudder info --header --quick lysozyme_01_0001.sfrm")]
+    Info(Info),
+    /// Write the counts of a frame or image as .npy, .raw (32 bits, least significant byte first), .pgm (16 bits), .tif,
+    /// .edf or .cbf (32 bits)
+    #[command(after_help = "Examples:\n  quayrudder expand lysozyme_01_0001.sfrm -o counts.npy\n  \
+                            quayrudder expand - -o - --as tif < lysozyme_01_0001.sfrm > counts.tif")]
     Expand(Expand),
     /// Make a picture of a frame or image to look at
-    #[command(after_help = "Example:\n  quayrudder view lysozyme_01_0001.sfrm -o look.png --log")]
+    #[command(after_help = "Examples:\n  quayrudder view lysozyme_01_0001.sfrm -o look.png --log\n  \
+                            quayrudder view lysozyme_01_0001.sfrm -o spot.png --rows 90..110 --columns 240..260 --zoom 8 \
+                            --colours viridis --scale")]
     View(View),
     /// Write a frame of FORMAT 100 from a header, counts and a form
     #[command(
@@ -105,53 +108,51 @@ pub enum Command {
 }
 
 #[derive(Args)]
+pub struct Info {
+    /// The frames or images, - for standard input
+    #[arg(required = true, value_name = "FRAME")]
+    pub frames: Vec<PathBuf>,
+    #[command(flatten)]
+    pub options: InfoOptions,
+}
+
+#[derive(Args)]
 pub struct Expand {
-    /// The frame or image
+    /// The frame or image, - for standard input
     pub frame: PathBuf,
-    /// The file to write; its ending says how: .npy, .raw or .pgm
+    /// The file to write, - for standard output; its ending says how: .npy, .raw, .pgm, .tif, .edf or .cbf
     #[arg(short, long, value_name = "OUT")]
     pub output: PathBuf,
-    /// Write counts above 65535 as 65535 (.pgm)
-    #[arg(long)]
-    pub clip: bool,
-    /// Replace the file where it exists
-    #[arg(long)]
-    pub force: bool,
+    #[command(flatten)]
+    pub options: ExpandOptions,
 }
 
 #[derive(Args)]
 pub struct View {
-    /// The frame or image
+    /// The frame or image, - for standard input
     pub frame: PathBuf,
-    /// The picture to write, a .png
+    /// The picture to write, a .png, - for standard output
     #[arg(short, long, value_name = "OUT.png")]
     pub output: PathBuf,
-    /// The count shown black [default: that of the darkest 0.5 %]
-    #[arg(long)]
-    pub min: Option<u32>,
-    /// The count shown white [default: that of the brightest 0.5 %]
-    #[arg(long)]
-    pub max: Option<u32>,
-    /// A logarithmic grey scale
-    #[arg(long)]
-    pub log: bool,
-    /// Replace the file where it exists
-    #[arg(long)]
-    pub force: bool,
+    #[command(flatten)]
+    pub options: ViewOptions,
 }
 
 #[derive(Args)]
 pub struct Write {
-    /// A file that starts with an accepted FORMAT 100 header: a frame will do
+    /// A file that starts with an accepted FORMAT 100 header: a frame will do; - for standard input
     #[arg(long, value_name = "FILE")]
     pub header: PathBuf,
-    /// The counts: .npy of whole numbers, or .raw (32 bits, least significant byte first)
+    /// The counts: .npy of whole numbers, or .raw (32 bits, least significant byte first); - for standard input
     #[arg(long, value_name = "FILE")]
     pub pixels: PathBuf,
+    /// The format of the counts, where the name does not end in it: npy or raw
+    #[arg(long = "as", value_name = "FORMAT", value_parser = formats::parse)]
+    pub format: Option<&'static Format>,
     /// Bytes per pixel, and +1 or +2 for the baseline subtracted with underflow entries of so many bytes
     #[arg(long, value_parser = parse_form)]
     pub form: Form,
-    /// The frame to write
+    /// The frame to write, - for standard output
     #[arg(short, long, value_name = "OUT")]
     pub output: PathBuf,
     /// Replace the file where it exists
@@ -161,7 +162,7 @@ pub struct Write {
 
 #[derive(Args)]
 pub struct Open {
-    /// The frame
+    /// The frame, - for standard input
     pub frame: PathBuf,
     /// Bytes per pixel, and +1 or +2 for the baseline subtracted with underflow entries of so many bytes
     #[arg(long, value_parser = parse_form)]

@@ -3,12 +3,12 @@ use crate::args::{Open, Place};
 use crate::clock::{self, date_text};
 use crate::digest::{Digest, State};
 use crate::failure::{shown, Failure, Outcome, Refused, NO};
-use crate::files;
 use crate::frames;
 use crate::holding::{Change, Holding};
 use crate::ledger::{self, Entry, Lent, Line};
 use crate::output::Output;
 use crate::refusals::sentence;
+use crate::streams;
 use crate::sums;
 use quayrudder::Date;
 use serde_json::{json, Value};
@@ -16,7 +16,7 @@ use std::time::Duration;
 
 pub fn open(output: &mut Output, asked: &Open, wait: Option<Duration>) -> Outcome<()> {
     let holding = Holding::named(&asked.output, wait)?;
-    let frame = files::read(&asked.frame)?;
+    let frame = streams::input(&asked.frame)?;
     let header = frames::header(&asked.frame, &frame)?;
     let mut pixels = vec![0; frames::pixel_count(&header)];
     let mut held = vec![0; frames::most_bytes(&header)];

@@ -5,23 +5,31 @@ mod args;
 mod clock;
 mod digest;
 mod dtrek;
+mod expand;
 mod failure;
 mod files;
+mod formats;
 mod frames;
 mod holding;
 mod holdings;
+mod info;
 mod ledger;
 mod locks;
 mod mar;
+mod options;
 mod output;
+mod picture;
 mod pixels;
 mod purge_log;
 mod redo;
 mod refusals;
 mod removal;
+mod scale_bar;
+mod streams;
 mod sums;
 mod sweep;
 mod verify;
+mod view;
 mod walk;
 
 use args::{Cli, Command};
@@ -37,6 +45,7 @@ const SWEEP_WAIT: u32 = 10;
 
 fn main() -> ExitCode {
     clock::forget_the_callers_zone();
+    cbf::without_temporary_files();
     let (mut output, done) = match Cli::try_parse() {
         Ok(cli) => {
             let mut output = Output::new(cli.json);
@@ -64,9 +73,9 @@ fn misused(error: &clap::Error) -> Failure {
 fn run(output: &mut Output, command: Command, seconds: Option<u32>) -> Outcome<()> {
     let wait = seconds.map(|number| Duration::from_secs(number.into()));
     match command {
-        Command::Info { frames } => frames::info(output, &frames),
-        Command::Expand(asked) => frames::expand(output, &asked),
-        Command::View(asked) => frames::view(output, &asked),
+        Command::Info(asked) => info::info(output, &asked),
+        Command::Expand(asked) => expand::expand(output, &asked),
+        Command::View(asked) => view::view(output, &asked),
         Command::Write(asked) => frames::write(output, &asked),
         Command::Open(asked) => holdings::open(output, &asked, wait),
         Command::Correct { name, pixel, count } => {

@@ -7,14 +7,22 @@ mod args;
 mod digest;
 #[path = "../src/failure.rs"]
 mod failure;
+#[path = "../src/files.rs"]
+mod files;
+#[path = "../src/formats.rs"]
+mod formats;
 #[path = "../src/ledger.rs"]
 mod ledger;
+#[path = "../src/options.rs"]
+mod options;
 #[path = "../src/pixels.rs"]
 mod pixels;
 #[path = "../src/redo.rs"]
 mod redo;
 #[path = "../src/refusals.rs"]
 mod refusals;
+#[path = "../src/streams.rs"]
+mod streams;
 #[path = "../src/sums.rs"]
 mod sums;
 
