@@ -121,8 +121,10 @@ fn an_output_that_exists_is_kept_unless_forced() {
 fn an_unknown_ending_is_bad_usage() {
     let f = folder();
     f.put("a.sfrm", plain_frame());
-    let ends =
-        [("expand a.sfrm -o a.txt", "must end in .npy, .raw or .pgm"), ("view a.sfrm -o a.jpg", "must end in .png")];
+    let ends = [
+        ("expand a.sfrm -o a.txt", "must end in .npy, .raw, .pgm, .tif, .edf or .cbf, or --as must say one of them"),
+        ("view a.sfrm -o a.jpg", "must end in .png"),
+    ];
     for (words, part) in ends {
         let ran = f.run(words);
         assert!(ran.status == Some(2) && ran.err.contains(part), "{ran:?}");
