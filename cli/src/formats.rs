@@ -116,10 +116,10 @@ fn edf(counts: &Counts) -> Vec<u8> {
 
 fn cbf(file: &Path, counts: &Counts) -> Outcome<Vec<u8>> {
     cbf::byte_offset(counts.rows as usize, counts.columns as usize, &counts.pixels).map_err(|error| match error {
-        cbf::Error::Lost { .. } => Failure::declined(
-            file,
-            format!("cannot hold these counts: {error}. Write an .npy, a .raw, a .tif or an .edf"),
-        ),
+        cbf::Error::Lost { .. } | cbf::Error::Longer { .. } => {
+            let why = format!("cannot hold these counts: {error}. Write an .npy, a .raw, a .tif or an .edf");
+            Failure::declined(file, why)
+        }
         other => Failure::machine(file, "encode")(Error::other(other)),
     })
 }

@@ -4,10 +4,11 @@ use crate::options::Colours;
 use crate::pixels::{encoder, Counts};
 use image::codecs::png::PngEncoder;
 use image::{ColorType, ImageEncoder};
+use std::borrow::Cow;
 use std::ops::Range;
 use std::path::Path;
 
-/// As many pixels as a picture has at most: twice each side of the largest frame, and as much again.
+/// As many pixels as a picture has at most. One with twice the sides of the largest frame has half of them.
 const MOST: u64 = 1 << 27;
 
 /// Viridis by seventeen of its colours, evenly spaced.
@@ -126,9 +127,9 @@ impl Picture {
 
     /// The picture as a PNG: one channel where all three are the same in every shade.
     pub fn png(&self, file: &Path, colours: Colours) -> Outcome<Vec<u8>> {
-        let (samples, kind): (Vec<u8>, ColorType) = match colours {
-            Colours::Grey => (self.pixels.iter().map(|pixel| pixel[0]).collect(), ColorType::L8),
-            _ => (self.pixels.as_flattened().to_vec(), ColorType::Rgb8),
+        let (samples, kind) = match colours {
+            Colours::Grey => (Cow::Owned(self.pixels.iter().map(|pixel| pixel[0]).collect()), ColorType::L8),
+            _ => (Cow::Borrowed(self.pixels.as_flattened()), ColorType::Rgb8),
         };
         let mut bytes = Vec::new();
         PngEncoder::new(&mut bytes)

@@ -49,17 +49,27 @@ struct Bar<'a> {
 }
 
 /// The picture with the bar below it. A picture that is narrower than the bar has white beside it.
-pub fn below(picture: &Picture, shading: &Shading, palette: &Palette) -> Picture {
+pub fn below(picture: Picture, shading: &Shading, palette: &Palette) -> Picture {
     let dot = (picture.width / PICTURE_PER_DOT).clamp(1, LARGEST_DOT);
     let ends = text_width(shading.low, dot) + text_width(shading.high, dot) + (GAP + 2 * MARGIN) * dot;
-    let width = picture.width.max(ends).max(LEAST * dot);
-    let height = picture.height + HEIGHT * dot;
-    let mut canvas = Picture { width, height, pixels: vec![WHITE; width * height] };
-    for (row, line) in picture.pixels.chunks_exact(picture.width).enumerate() {
-        canvas.pixels[row * width..row * width + picture.width].copy_from_slice(line);
-    }
-    Bar { shading, dot, width }.draw(&mut canvas, picture.height, palette);
+    let (width, top) = (picture.width.max(ends).max(LEAST * dot), picture.height);
+    let mut canvas = widened(picture, width);
+    canvas.height += HEIGHT * dot;
+    canvas.pixels.resize(width * canvas.height, WHITE);
+    Bar { shading, dot, width }.draw(&mut canvas, top, palette);
     canvas
+}
+
+fn widened(picture: Picture, width: usize) -> Picture {
+    if picture.width == width {
+        return picture;
+    }
+    let mut pixels = Vec::with_capacity(width * picture.height);
+    for line in picture.pixels.chunks_exact(picture.width) {
+        pixels.extend_from_slice(line);
+        pixels.resize(pixels.len() + width - picture.width, WHITE);
+    }
+    Picture { width, height: picture.height, pixels }
 }
 
 fn text_width(count: u32, dot: usize) -> usize {

@@ -29,7 +29,7 @@ pub fn view_one(frame: &Path, output: &Path, options: &ViewOptions) -> Outcome<(
     let palette = palette(options.colours);
     let mut picture = Picture::new(output, &counts, &shading, &palette, options.zoom)?;
     if options.scale {
-        picture = scale_bar::below(&picture, &shading, &palette);
+        picture = scale_bar::below(picture, &shading, &palette);
     }
     streams::output(output, &picture.png(output, options.colours)?, options.force)?;
     Ok(answer(output, &picture, &shading, &rows, &columns, options))
