@@ -1,27 +1,26 @@
 //! expand: the counts of a frame or an image in a file.
 use crate::args::Expand;
 use crate::failure::{shown, Outcome};
-use crate::formats;
+use crate::formats::{self, Format};
 use crate::frames;
-use crate::options::ExpandOptions;
-use crate::output::Output;
+use crate::output::{Made, Output};
 use crate::streams;
-use serde_json::{json, Value};
+use serde_json::json;
 use std::path::Path;
 
 pub fn expand(output: &mut Output, asked: &Expand) -> Outcome<()> {
     output.make_way_for(&asked.output);
-    let (text, value) = expand_one(&asked.frame, &asked.output, &asked.options)?;
-    output.say(&text, &value)
+    let format = formats::to_write(&asked.output, asked.options.format)?;
+    let made = expand_one(&asked.frame, &asked.output, format, asked.options.clip)?;
+    streams::output(&asked.output, &made.bytes, asked.options.force)?;
+    output.say(&made.text, &made.value)
 }
 
-/// Writes the counts of one frame, and gives the answer.
-pub fn expand_one(frame: &Path, output: &Path, options: &ExpandOptions) -> Outcome<(String, Value)> {
-    let format = formats::to_write(output, options.format)?;
+/// The counts of one frame, for a file of this name.
+pub fn expand_one(frame: &Path, file: &Path, format: &Format, clip: bool) -> Outcome<Made> {
     let counts = frames::counts(frame)?;
-    let bytes = format.encode(output, &counts, options.clip)?;
-    streams::output(output, &bytes, options.force)?;
-    let (name, rows, columns) = (shown(output), counts.rows, counts.columns);
+    let bytes = format.encode(file, &counts, clip)?;
+    let (name, rows, columns) = (shown(file), counts.rows, counts.columns);
     let text = format!("{name}: {rows} rows, {columns} columns");
-    Ok((text, json!({"file": name, "rows": rows, "columns": columns})))
+    Ok(Made { bytes, text, value: json!({"file": name, "rows": rows, "columns": columns}) })
 }

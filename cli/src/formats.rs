@@ -13,7 +13,7 @@ type Decoder = fn(&Path, &[u8]) -> Outcome<Given>;
 #[derive(Debug)]
 pub struct Format {
     /// The endings of a file's name, and the words for `--as`; the first is the usual one.
-    pub endings: &'static [&'static str],
+    endings: &'static [&'static str],
     encode: Encoder,
     decode: Option<Decoder>,
 }
@@ -33,7 +33,12 @@ static FORMATS: [Format; 6] = [
 
 /// For `--as`.
 pub fn parse(word: &str) -> Result<&'static Format, String> {
-    named(word).ok_or_else(|| format!("it is one of {}", listed(|_| true, "")))
+    named(word).ok_or_else(|| format!("it is one of {}", words()))
+}
+
+/// All words for `--as`, in a sentence.
+pub fn words() -> String {
+    listed(|_| true, "")
 }
 
 /// The format in which counts are written to a file.
@@ -53,7 +58,7 @@ fn named(ending: &str) -> Option<&'static Format> {
 /// The usual endings of some of the formats in a sentence.
 fn listed(fits: fn(&Format) -> bool, before: &str) -> String {
     let endings: Vec<String> =
-        FORMATS.iter().filter(|format| fits(format)).map(|format| format!("{before}{}", format.endings[0])).collect();
+        FORMATS.iter().filter(|format| fits(format)).map(|format| format!("{before}{}", format.ending())).collect();
     match endings.split_last() {
         Some((last, rest)) if !rest.is_empty() => format!("{} or {last}", rest.join(", ")),
         _ => endings.concat(),
@@ -66,7 +71,7 @@ fn chosen(file: &Path, asked: Option<&'static Format>, fits: fn(&Format) -> bool
     let name = shown(file);
     let why = match (named(ending), asked) {
         (Some(said), Some(asked)) if said.endings != asked.endings => {
-            format!("`{name}` ends in .{ending}, and --as says {}", asked.endings[0])
+            format!("`{name}` ends in .{ending}, and --as says {}", asked.ending())
         }
         (said, asked) => match asked.or(said).filter(|format| fits(format)) {
             Some(format) => return Ok(format),
@@ -78,6 +83,11 @@ fn chosen(file: &Path, asked: Option<&'static Format>, fits: fn(&Format) -> bool
 }
 
 impl Format {
+    /// The usual ending of a file's name.
+    pub fn ending(&self) -> &'static str {
+        self.endings[0]
+    }
+
     pub fn encode(&self, file: &Path, counts: &Counts, clip: bool) -> Outcome<Vec<u8>> {
         (self.encode)(file, counts, clip)
     }

@@ -13,6 +13,13 @@ pub struct Output {
     aside: bool,
 }
 
+/// The bytes of an output file, and what is said of it once they are written.
+pub struct Made {
+    pub bytes: Vec<u8>,
+    pub text: String,
+    pub value: Value,
+}
+
 impl Output {
     pub fn new(json: bool) -> Output {
         Output { json, worst: DONE, aside: false }

@@ -3,36 +3,42 @@ use crate::args::View;
 use crate::failure::{shown, Failure, Outcome};
 use crate::frames;
 use crate::options::ViewOptions;
-use crate::output::Output;
+use crate::output::{Made, Output};
 use crate::picture::{palette, part_of, within, Picture, Shading};
 use crate::pixels;
 use crate::scale_bar;
 use crate::streams;
-use serde_json::{json, Value};
-use std::ops::Range;
+use serde_json::json;
 use std::path::Path;
 
 pub fn view(output: &mut Output, asked: &View) -> Outcome<()> {
     output.make_way_for(&asked.output);
-    let (text, value) = view_one(&asked.frame, &asked.output, &asked.options)?;
-    output.say(&text, &value)
+    must_be_possible(&asked.output, &asked.options)?;
+    let made = view_one(&asked.frame, &asked.output, &asked.options)?;
+    streams::output(&asked.output, &made.bytes, asked.options.force)?;
+    output.say(&made.text, &made.value)
 }
 
-/// Makes the picture of one frame, and gives the answer.
-pub fn view_one(frame: &Path, output: &Path, options: &ViewOptions) -> Outcome<(String, Value)> {
-    must_be_possible(output, options)?;
+/// The picture of one frame, for a file of this name.
+pub fn view_one(frame: &Path, file: &Path, options: &ViewOptions) -> Outcome<Made> {
     let counts = frames::counts(frame)?;
     let rows = within(frame, "rows", options.rows.as_ref(), counts.rows)?;
     let columns = within(frame, "columns", options.columns.as_ref(), counts.columns)?;
     let counts = part_of(counts, &rows, &columns);
-    let shading = Shading::new(pixels::limits(&counts.pixels, options.min, options.max), options.log);
+    let (black, white) = pixels::limits(&counts.pixels, options.min, options.max);
+    let shading = Shading::new((black, white), options.log);
     let palette = palette(options.colours);
-    let mut picture = Picture::new(output, &counts, &shading, &palette, options.zoom)?;
+    let mut picture = Picture::new(file, &counts, &shading, &palette, options.zoom)?;
     if options.scale {
         picture = scale_bar::below(picture, &shading, &palette);
     }
-    streams::output(output, &picture.png(output, options.colours)?, options.force)?;
-    Ok(answer(output, &picture, &shading, &rows, &columns, options))
+    let (name, width, height) = (shown(file), picture.width, picture.height);
+    let text = format!("{name}: {width} x {height} pixels, black {black}, white {white}");
+    let value = json!({
+        "file": name, "width": width, "height": height, "black": black, "white": white, "log": options.log,
+        "rows": [rows.start, rows.end], "columns": [columns.start, columns.end],
+    });
+    Ok(Made { bytes: picture.png(file, options.colours)?, text, value })
 }
 
 fn must_be_possible(output: &Path, options: &ViewOptions) -> Outcome<()> {
@@ -44,21 +50,4 @@ fn must_be_possible(output: &Path, options: &ViewOptions) -> Outcome<()> {
         return Err(Failure::Usage("--min must be below --max".into()));
     }
     Ok(())
-}
-
-fn answer(
-    output: &Path,
-    picture: &Picture,
-    shading: &Shading,
-    rows: &Range<u32>,
-    columns: &Range<u32>,
-    options: &ViewOptions,
-) -> (String, Value) {
-    let (name, black, white) = (shown(output), shading.low, shading.high);
-    let text = format!("{name}: {} x {} pixels, black {black}, white {white}", picture.width, picture.height);
-    let value = json!({
-        "file": name, "width": picture.width, "height": picture.height, "black": black, "white": white,
-        "log": options.log, "rows": [rows.start, rows.end], "columns": [columns.start, columns.end],
-    });
-    (text, value)
 }
