@@ -1,5 +1,5 @@
-//! Links Debian's libcbf.a. The shared library would load HDF5 and forty more with it at every start of the command; of the archive
-//! only the parts that write a CBF are taken, which need none of them.
+//! Links Debian's libcbf.a. The shared library would load HDF5 and 32 more at every start of the command; of the archive only the parts
+//! that write a CBF are taken, which need none of them.
 use std::path::Path;
 use std::process::Command;
 
