@@ -2,7 +2,7 @@
    FAULT=before, after: killed before or after the call; torn: killed with half of a write done; a number: the call fails with this errno.
    FAULT=readonly: every call that would make, rename or remove a file fails with EROFS.
    FAULT_LOG names a file that gets a line for each call. FAULT_MARK names one that is made when call FAULT_AT comes.
-   FAULT_READS names a file that gets a line for each read: how many bytes came, and the name of the file that they are of.
+   FAULT_READS names a file that gets a line for each read, with how many bytes came and of which file, and for each advice on reading.
    FAULT_CLOCK: the time of day in seconds, which stands still. FAULT_RENAMEAT2: every renameat2 fails with this errno.
    FAULT_RUN: a shell command that is run, without this library, once before the call that FAULT_RUN_AT names by its line, or else before
    every call, with the line in CALL. For this, opening a file to read is a call too. */
@@ -100,17 +100,24 @@ static const char *path_of(int fd) {
     int planned = due(call, path, makes); \
     if (planned == FAIL) return -1
 
-ssize_t read(int fd, void *bytes, size_t n) {
-    ssize_t got = syscall(SYS_read, fd, bytes, n);
+static void note_read(const char *what, long number, int fd) {
     const char *log = getenv("FAULT_READS");
-    if (!log) return got;
+    if (!log) return;
     int error = errno;
-    char count[32], line[4300];
-    snprintf(count, sizeof count, "%zd", got);
-    snprintf(line, sizeof line, "%s\n", line_of(count, path_of(fd)));
+    char start[64], line[4300];
+    snprintf(start, sizeof start, "%s%ld", what, number);
+    snprintf(line, sizeof line, "%s\n", line_of(start, path_of(fd)));
     note(log, line);
     errno = error;
+}
+ssize_t read(int fd, void *bytes, size_t n) {
+    ssize_t got = syscall(SYS_read, fd, bytes, n);
+    note_read("", got, fd);
     return got;
+}
+int posix_fadvise64(int fd, off64_t at, off64_t n, int advice) {
+    note_read("advice ", advice, fd);
+    return syscall(SYS_fadvise64, fd, at, n, advice) ? errno : 0;
 }
 ssize_t write(int fd, const void *bytes, size_t n) {
     ON("write", path_of(fd), 0);

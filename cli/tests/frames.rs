@@ -1,13 +1,9 @@
 //! info, expand, view, write, and refusals 1 to 16, by the real command.
 mod common;
 use common::header::{Header, LENGTH};
-use common::{folder, frame, old_frame, plain_frame, tables_frame, Folder, OLD_ENTRY};
+use common::{folder, frame, old_frame, plain_frame, raw, tables_frame, Folder, OLD_ENTRY};
 
 const TABLES: [u32; 4] = [35, 332, 70032, 30];
-
-fn raw(counts: &[u32]) -> Vec<u8> {
-    counts.iter().flat_map(|count| count.to_le_bytes()).collect()
-}
 
 #[test]
 fn info_says_what_a_frame_is() {
