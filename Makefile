@@ -1,6 +1,6 @@
 # Daily work. `make test` is the gate; the rest eases the way there.
 .PHONY: test toolchain check must-fail fmt dev skeletons paths staticlib bench bench-docs clean
-.PHONY: deps-rust deps-peers deps-dxtbx deps-bench second-reader compare compare-short soak mar-trials dtrek-trials faults peers compare-frames
+.PHONY: deps-rust deps-peers deps-dxtbx deps-bench second-reader compare compare-short soak mar-trials dtrek-trials faults peers peers-formats compare-frames
 .PHONY: deps cli cli-test demo
 
 # What the gate runs after the proofs, in this order: targets of this file, one more line each.
@@ -113,8 +113,12 @@ faults: deps-rust
 
 # FabIO, dxtbx and CBFlib, Debian's readers and writers of the same formats, beside the library (docs/PEERS.md).
 PYTHON := /usr/bin/python3 -B
-peers: deps-peers deps-dxtbx second-reader
+peers: deps-peers deps-dxtbx second-reader peers-formats
 	$(PYTHON) tests/peers/peers.py $(SEED)
+
+# What the command's expand writes, read back by others.
+peers-formats: deps-peers deps-dxtbx cli
+	$(PYTHON) tests/peers/formats.py $(SEED)
 
 # Every file in frames/ read by the library, by the second reader and by FabIO.
 compare-frames: deps-peers second-reader
@@ -122,7 +126,7 @@ compare-frames: deps-peers second-reader
 
 # The command quayrudder (cli), from Debian's crates over the static library.
 CLI := target/cli/release/quayrudder
-DEBIAN := gcc $(patsubst %,librust-%-dev,chrono clap csv image indicatif rayon rustix serde-json sha2 tempfile users walkdir)
+DEBIAN := gcc libcbf-dev $(patsubst %,librust-%-dev,chrono clap csv image indicatif rayon rustix serde-json sha2 tempfile tiff users walkdir)
 
 deps: deps-rust
 	@tools/deps $(DEBIAN)

@@ -1,4 +1,4 @@
-//! The proved library behind safe functions: the only unsafe code of the repository.
+//! The proved library behind safe functions: with `cbf`, which does the same for libcbf, the only unsafe code of what is installed.
 //!
 //! A slice passes as a pointer and a length in elements. The library has no precondition beyond what a slice is.
 

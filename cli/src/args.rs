@@ -1,6 +1,7 @@
 //! The command line.
+use crate::formats::{self, Format};
 use crate::given::{Dated, Names};
-use crate::pixels::Format;
+use crate::options::{ExpandOptions, InfoOptions, ViewOptions};
 use crate::shard::{self, Shard};
 use clap::{Arg, Args, Parser, Subcommand};
 use quayrudder::{Date, Form};
@@ -33,13 +34,16 @@ pub enum Command {
     /// Say what frames, mar images and d*TREK images are: format, size, form, counts and end, or why they are refused
     #[command(
         mut_arg("names", images),
-        after_help = "Examples:\n  quayrudder info lysozyme_01_0001.sfrm\n  quayrudder info --below frames"
+        after_help = "Examples:\n  quayrudder info lysozyme_01_0001.sfrm\n  \
+                            quayrudder info --header --quick lysozyme_01_0001.sfrm\n  quayrudder info --below frames"
     )]
     Info(Info),
-    /// Write the counts of a frame or image as .npy, .raw (32 bits, least significant byte first) or .pgm (16 bits)
+    /// Write the counts of a frame or image as .npy, .raw (32 bits, least significant byte first), .pgm (16 bits), .tif,
+    /// .edf or .cbf (32 bits)
     #[command(
         mut_arg("names", images),
         after_help = "Examples:\n  quayrudder expand lysozyme_01_0001.sfrm -o counts.npy\n  \
+                            quayrudder expand - -o - --as tif < lysozyme_01_0001.sfrm > counts.tif\n  \
                             quayrudder expand --below frames --as npy -o counts"
     )]
     Expand(Expand),
@@ -47,7 +51,8 @@ pub enum Command {
     #[command(
         mut_arg("names", images),
         after_help = "Examples:\n  quayrudder view lysozyme_01_0001.sfrm -o look.png --log\n  \
-                            quayrudder view --below frames -o pictures --log"
+                            quayrudder view lysozyme_01_0001.sfrm -o spot.png --rows 90..110 --columns 240..260 --zoom 8 \
+                            --colours viridis --scale\n  quayrudder view --below frames -o pictures --log"
     )]
     View(View),
     /// Write a frame of FORMAT 100 from a header, counts and a form
@@ -126,11 +131,11 @@ pub enum Command {
 
 // What the names of each command are.
 fn images(names: Arg) -> Arg {
-    names.value_name("FRAME").help("The frames or images, as many as you like")
+    names.value_name("FRAME").help("The frames or images, as many as you like, - for standard input")
 }
 
 fn frames(names: Arg) -> Arg {
-    names.value_name("FRAME").help("The frames, as many as you like")
+    names.value_name("FRAME").help("The frames, as many as you like, - for standard input")
 }
 
 fn holdings(names: Arg) -> Arg {
@@ -149,59 +154,48 @@ fn holdings_or_folders(names: Arg) -> Arg {
 pub struct Info {
     #[command(flatten)]
     pub names: Names,
+    #[command(flatten)]
+    pub options: InfoOptions,
 }
 
 #[derive(Args)]
 pub struct Expand {
     #[command(flatten)]
     pub names: Names,
-    /// The file to write, whose ending says how: .npy, .raw or .pgm; for several frames the folder for their files
+    /// The file to write, - for standard output, whose ending says how: .npy, .raw, .pgm, .tif, .edf or .cbf; for several
+    /// frames the folder for their files
     #[arg(short, long, value_name = "OUT")]
     pub output: PathBuf,
-    /// How to write the counts, whatever the file's ending
-    #[arg(long = "as", value_enum, value_name = "FORMAT")]
-    pub format: Option<Format>,
-    /// Write counts above 65535 as 65535 (.pgm)
-    #[arg(long)]
-    pub clip: bool,
-    /// Replace the file where it exists
-    #[arg(long)]
-    pub force: bool,
+    #[command(flatten)]
+    pub options: ExpandOptions,
 }
 
 #[derive(Args)]
 pub struct View {
     #[command(flatten)]
     pub names: Names,
-    /// The picture to write, a .png; for several frames the folder for their pictures
+    /// The picture to write, a .png, - for standard output; for several frames the folder for their pictures
     #[arg(short, long, value_name = "OUT.png")]
     pub output: PathBuf,
-    /// The count shown black [default: that of the darkest 0.5 %]
-    #[arg(long)]
-    pub min: Option<u32>,
-    /// The count shown white [default: that of the brightest 0.5 %]
-    #[arg(long)]
-    pub max: Option<u32>,
-    /// A logarithmic grey scale
-    #[arg(long)]
-    pub log: bool,
-    /// Replace the file where it exists
-    #[arg(long)]
-    pub force: bool,
+    #[command(flatten)]
+    pub options: ViewOptions,
 }
 
 #[derive(Args)]
 pub struct Write {
-    /// A file that starts with an accepted FORMAT 100 header: a frame will do
+    /// A file that starts with an accepted FORMAT 100 header: a frame will do; - for standard input
     #[arg(long, value_name = "FILE")]
     pub header: PathBuf,
-    /// The counts: .npy of whole numbers, or .raw (32 bits, least significant byte first)
+    /// The counts: .npy of whole numbers, or .raw (32 bits, least significant byte first); - for standard input
     #[arg(long, value_name = "FILE")]
     pub pixels: PathBuf,
+    /// The format of the counts, where the name does not end in it: npy or raw
+    #[arg(long = "as", value_name = "FORMAT", value_parser = formats::parse)]
+    pub format: Option<&'static Format>,
     /// Bytes per pixel, and +1 or +2 for the baseline subtracted with underflow entries of so many bytes
     #[arg(long, value_parser = parse_form)]
     pub form: Form,
-    /// The frame to write
+    /// The frame to write, - for standard output
     #[arg(short, long, value_name = "OUT")]
     pub output: PathBuf,
     /// Replace the file where it exists

@@ -1,5 +1,6 @@
 //! d*TREK images: the items of the header, and what is said of them.
-use crate::failure::{shown, Failure, Outcome, Refused};
+use crate::failure::{printable, shown, Failure, Outcome, Refused};
+use crate::info::{end_text, End};
 use crate::refusals::dtrek_sentence;
 use quayrudder::DtrekHeaderAnswer;
 use serde_json::{json, Value};
@@ -28,15 +29,6 @@ pub struct Header {
 /// Is this a d*TREK image, or meant to be one? Neither a Bruker frame nor a mar image starts so.
 pub fn is_dtrek(bytes: &[u8]) -> bool {
     bytes.first() == Some(&b'{')
-}
-
-/// Printable ASCII as it is, but for the backslash; anything else as an escape. Two texts are the same only where their bytes are.
-fn printable(bytes: &[u8]) -> String {
-    let one = |&byte: &u8| match byte {
-        b'"' | b'\'' => char::from(byte).to_string(),
-        _ => byte.escape_ascii().to_string(),
-    };
-    bytes.iter().map(one).collect()
 }
 
 /// The items up to the first place where there is none.
@@ -107,28 +99,29 @@ impl Header {
         self.answer.rows as usize * self.answer.columns as usize
     }
 
-    /// What `info` says of an image that ends at this byte of so many.
-    pub fn text(&self, file: &Path, end: u64, length: u64) -> String {
+    /// What `info` says of an image.
+    pub fn text(&self, file: &Path, end: Option<End>) -> String {
         let DtrekHeaderAnswer { rows, columns, width, start, .. } = self.answer;
         let (name, order) = (shown(file), self.order());
         let what = match self.pixel_count() {
             0 => "no pixels".to_string(),
             _ => format!("{rows} rows, {columns} columns, {width} bytes per pixel, {order}"),
         };
-        let lead =
-            format!("{name}: d*TREK image, {what}\n  header {start} bytes, image ends at byte {end} of {length}");
+        let end = end_text("image", end);
+        let lead = format!("{name}: d*TREK image, {what}\n  header {start} bytes, {end}");
         let lines = self.items.iter().map(|item| format!("\n  {}={}", item.keyword, item.value));
         [lead].into_iter().chain(lines).collect()
     }
 
     /// The same for `--json`.
-    pub fn value(&self, file: &Path, end: u64, length: u64) -> Value {
+    pub fn value(&self, file: &Path, end: Option<End>) -> Value {
         let DtrekHeaderAnswer { rows, columns, width, start, .. } = self.answer;
         let item = |item: &Item| json!({"keyword": item.keyword, "value": item.value});
         let items: Vec<Value> = self.items.iter().map(item).collect();
         json!({
             "file": shown(file), "format": "d*TREK", "rows": rows, "columns": columns, "width": width,
-            "byte_order": self.order(), "header_bytes": start, "end": end, "bytes": length, "items": items,
+            "byte_order": self.order(), "header_bytes": start, "end": end.map(|end| end.end),
+            "bytes": end.map(|end| end.bytes), "items": items,
         })
     }
 

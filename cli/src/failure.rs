@@ -183,3 +183,12 @@ fn escaped(text: &str) -> String {
 fn as_hex(bytes: &[u8]) -> String {
     bytes.iter().map(|byte| format!("\\x{byte:02x}")).collect()
 }
+
+/// Printable ASCII as it is, but for the backslash; anything else as an escape. Two texts are the same only where their bytes are.
+pub fn printable(bytes: &[u8]) -> String {
+    let one = |&byte: &u8| match byte {
+        b'"' | b'\'' => char::from(byte).to_string(),
+        _ => byte.escape_ascii().to_string(),
+    };
+    bytes.iter().map(one).collect()
+}

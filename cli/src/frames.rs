@@ -1,28 +1,26 @@
-//! The commands on frames, mar images and d*TREK images: info, expand, view; and on frames alone: write.
-use crate::args::{Expand, Info, View, Write};
-use crate::batch::Said;
+//! Frames, mar images and d*TREK images as they are read, and frames as they are written.
+use crate::args::Write;
 use crate::dtrek;
 use crate::failure::{shown, Failure, Outcome, Refused};
-use crate::files;
+use crate::formats;
 use crate::mar;
-use crate::names;
 use crate::output::Output;
-use crate::outputs::Outputs;
-use crate::pixels::{self, Counts, Format, Given};
+use crate::pixels::{Counts, Given};
 use crate::refusals::sentence;
+use crate::streams;
 use quayrudder::{Form, HeaderAnswer, ReadAnswer};
-use serde_json::{json, Value};
+use serde_json::json;
 use std::path::Path;
 
 /// A frame or an image that the library accepts.
-struct Frame {
-    kind: Kind,
-    counts: Counts,
-    length: u64,
-    end: u64,
+pub struct Frame {
+    pub kind: Kind,
+    pub counts: Counts,
+    pub end: u64,
 }
 
-enum Kind {
+/// What the header of a frame or an image says.
+pub enum Kind {
     Bruker(HeaderAnswer),
     Mar(mar::Entries),
     Dtrek(dtrek::Header),
@@ -68,71 +66,58 @@ pub fn most_bytes(header: &HeaderAnswer) -> usize {
     header.start as usize + 9 * pixel_count(header) + 48
 }
 
-fn read(file: &Path) -> Outcome<Frame> {
-    let bytes = files::read(file)?;
-    let (kind, pixels, answer) = if mar::is_mar(&bytes) {
-        read_mar(file, &bytes)?
-    } else if dtrek::is_dtrek(&bytes) {
-        read_dtrek(file, &bytes)?
+/// The format of a file and what its header says, or the header's refusal.
+pub fn kind(file: &Path, bytes: &[u8]) -> Outcome<Kind> {
+    if mar::is_mar(bytes) {
+        mar::entries(file, bytes).map(Kind::Mar)
+    } else if dtrek::is_dtrek(bytes) {
+        dtrek::header(file, bytes).map(Kind::Dtrek)
     } else {
-        read_bruker(file, &bytes)?
+        header(file, bytes).map(Kind::Bruker)
+    }
+}
+
+impl Kind {
+    fn pixel_count(&self) -> usize {
+        match self {
+            Kind::Bruker(header) => pixel_count(header),
+            Kind::Mar(entries) => entries.pixel_count(),
+            Kind::Dtrek(header) => header.pixel_count(),
+        }
+    }
+
+    fn refused(&self, file: &Path, bytes: &[u8], answer: &ReadAnswer) -> Failure {
+        match self {
+            Kind::Bruker(_) => refused(file, bytes, answer.refusal, answer.place, answer.column),
+            Kind::Mar(_) => mar::refused(file, answer.refusal, answer.place),
+            Kind::Dtrek(_) => dtrek::refused(file, bytes, answer.refusal),
+        }
+    }
+}
+
+/// The whole of a frame or an image, from a file's bytes.
+pub fn read(file: &Path, bytes: &[u8]) -> Outcome<Frame> {
+    let kind = kind(file, bytes)?;
+    let mut pixels = vec![0; kind.pixel_count()];
+    let answer = match kind {
+        Kind::Bruker(_) => quayrudder::read(bytes, &mut pixels),
+        Kind::Mar(_) => quayrudder::mar_read(bytes, &mut pixels),
+        Kind::Dtrek(_) => quayrudder::dtrek_read(bytes, &mut pixels),
     };
+    if answer.refusal != 0 {
+        return Err(kind.refused(file, bytes, &answer));
+    }
     let counts = Counts { rows: answer.rows, columns: answer.columns, pixels };
-    Ok(Frame { kind, counts, length: bytes.len() as u64, end: answer.end })
-}
-
-fn read_bruker(file: &Path, bytes: &[u8]) -> Outcome<(Kind, Vec<u32>, ReadAnswer)> {
-    let header = header(file, bytes)?;
-    let mut pixels = vec![0; pixel_count(&header)];
-    let answer = quayrudder::read(bytes, &mut pixels);
-    match answer.refusal {
-        0 => Ok((Kind::Bruker(header), pixels, answer)),
-        number => Err(refused(file, bytes, number, answer.place, answer.column)),
-    }
-}
-
-fn read_mar(file: &Path, bytes: &[u8]) -> Outcome<(Kind, Vec<u32>, ReadAnswer)> {
-    let entries = mar::entries(file, bytes)?;
-    let mut pixels = vec![0; entries.pixel_count()];
-    let answer = quayrudder::mar_read(bytes, &mut pixels);
-    match answer.refusal {
-        0 => Ok((Kind::Mar(entries), pixels, answer)),
-        number => Err(mar::refused(file, number, answer.place)),
-    }
-}
-
-fn read_dtrek(file: &Path, bytes: &[u8]) -> Outcome<(Kind, Vec<u32>, ReadAnswer)> {
-    let header = dtrek::header(file, bytes)?;
-    let mut pixels = vec![0; header.pixel_count()];
-    let answer = quayrudder::dtrek_read(bytes, &mut pixels);
-    match answer.refusal {
-        0 => Ok((Kind::Dtrek(header), pixels, answer)),
-        number => Err(dtrek::refused(file, bytes, number)),
-    }
+    Ok(Frame { kind, counts, end: answer.end })
 }
 
 /// The counts of a frame or an image that has any.
-fn counts(file: &Path) -> Outcome<Counts> {
-    let counts = read(file)?.counts;
+pub fn counts(file: &Path) -> Outcome<Counts> {
+    let counts = read(file, &streams::input(file)?)?.counts;
     match counts.pixels.is_empty() {
         true => Err(Failure::declined(file, "has no pixels: it is a header alone, which `info` shows")),
         false => Ok(counts),
     }
-}
-
-pub fn info(output: &mut Output, asked: &Info) -> Outcome<()> {
-    let found = names::frames(&asked.names, None)?;
-    found.each(output, &["accepted"], |item| read(&item.path).map(|frame| said_of(&item.path, &frame)))
-}
-
-fn said_of(file: &Path, frame: &Frame) -> Said {
-    let Frame { end, length, .. } = *frame;
-    let (text, value) = match &frame.kind {
-        Kind::Bruker(header) => (info_text(file, header, end, length), info_value(file, header, end, length)),
-        Kind::Mar(entries) => (entries.text(file, end, length), entries.value(file, end, length)),
-        Kind::Dtrek(header) => (header.text(file, end, length), header.value(file, end, length)),
-    };
-    Said { text, value, counted: "accepted" }
 }
 
 /// A form as it is asked for: `2`, or `1+2`.
@@ -143,92 +128,13 @@ pub fn form_text(width: u32, underflow: u32) -> String {
     }
 }
 
-fn info_text(file: &Path, h: &HeaderAnswer, end: u64, length: u64) -> String {
-    let baseline = match h.subtracted {
-        0 => "no baseline".to_string(),
-        _ => format!("baseline {} subtracted", h.baseline),
-    };
-    let (form, entries) = match h.format {
-        86 => (format!("{} bytes per pixel", h.width), format!("overflow {}", h.entries)),
-        _ => (
-            format!("form {}, {baseline}", form_text(h.width, h.entry)),
-            format!("underflow {}, two-byte {}, four-byte {}", h.underflows, h.two, h.four),
-        ),
-    };
-    let name = shown(file);
-    format!(
-        "{name}: FORMAT {}, {} rows, {} columns, {form}\n  entries: {entries}\n  header {} bytes, frame ends at byte {} of {}",
-        h.format, h.rows, h.columns, h.start, end, length,
-    )
-}
-
-fn info_value(file: &Path, h: &HeaderAnswer, end: u64, length: u64) -> Value {
-    json!({
-        "file": shown(file), "format": h.format, "rows": h.rows, "columns": h.columns,
-        "width": h.width, "underflow_width": h.entry, "baseline_subtracted": h.subtracted == 1, "baseline": h.baseline,
-        "overflow_entries": h.entries, "underflow_entries": h.underflows,
-        "two_byte_entries": h.two, "four_byte_entries": h.four,
-        "header_bytes": h.start, "end": end, "bytes": length,
-    })
-}
-
-fn ending(path: &Path) -> &str {
-    path.extension().and_then(|ending| ending.to_str()).unwrap_or_default()
-}
-
-pub fn expand(output: &mut Output, asked: &Expand) -> Outcome<()> {
-    let format = format(asked)?;
-    let found = names::frames(&asked.names, Some(&asked.output))?;
-    let outputs = Outputs::new(&found, &asked.output, format.ending())?;
-    found.each(output, &["expanded", "already expanded"], |item| {
-        let file = outputs.of(item)?;
-        let counts = counts(&item.path)?;
-        let bytes = format.bytes(&file, &counts, asked.clip)?;
-        let counted = if outputs.put(&file, &bytes, asked.force)? { "expanded" } else { "already expanded" };
-        let (name, rows, columns) = (shown(&file), counts.rows, counts.columns);
-        let text = format!("{name}: {rows} rows, {columns} columns");
-        Ok(Said { text, value: json!({"file": name, "rows": rows, "columns": columns}), counted })
-    })
-}
-
-/// As --as says, or else as the one file ends.
-fn format(asked: &Expand) -> Outcome<Format> {
-    let by_name = || asked.names.single().and_then(|_| Format::of_ending(ending(&asked.output)));
-    asked.format.or_else(by_name).ok_or_else(|| match asked.names.single() {
-        Some(_) => Failure::Usage(format!("`{}` must end in .npy, .raw or .pgm", shown(&asked.output))),
-        None => Failure::Usage("for many frames say with --as how to write them: npy, raw or pgm".into()),
-    })
-}
-
-pub fn view(output: &mut Output, asked: &View) -> Outcome<()> {
-    if asked.names.single().is_some() && ending(&asked.output) != "png" {
-        return Err(Failure::Usage(format!("`{}` must end in .png", shown(&asked.output))));
-    }
-    if asked.min.zip(asked.max).is_some_and(|(min, max)| min >= max) {
-        return Err(Failure::Usage("--min must be below --max".into()));
-    }
-    let found = names::frames(&asked.names, Some(&asked.output))?;
-    let outputs = Outputs::new(&found, &asked.output, "png")?;
-    found.each(output, &["viewed", "already viewed"], |item| {
-        let file = outputs.of(item)?;
-        let counts = counts(&item.path)?;
-        let (black, white) = pixels::limits(&counts.pixels, asked.min, asked.max);
-        let picture = pixels::png(&file, &counts, (black, white), asked.log)?;
-        let counted = if outputs.put(&file, &picture, asked.force)? { "viewed" } else { "already viewed" };
-        let name = shown(&file);
-        let text = format!("{name}: {} x {} pixels, black {black}, white {white}", counts.columns, counts.rows);
-        let value = json!({
-            "file": name, "width": counts.columns, "height": counts.rows, "black": black, "white": white,
-            "log": asked.log,
-        });
-        Ok(Said { text, value, counted })
-    })
-}
-
 pub fn write(output: &mut Output, asked: &Write) -> Outcome<()> {
-    let bytes = files::read(&asked.header)?;
+    output.make_way_for(&asked.output);
+    streams::must_come_once([asked.header.as_path(), &asked.pixels])?;
+    let format = formats::to_read(&asked.pixels, asked.format)?;
+    let bytes = streams::input(&asked.header)?;
     let header = header(&asked.header, &bytes)?;
-    let given = given(&asked.pixels)?;
+    let given = format.decode(&asked.pixels, &streams::input(&asked.pixels)?)?;
     must_fit(&asked.pixels, &given, &header)?;
     let mut out = vec![0; most_bytes(&header)];
     let answer = quayrudder::write(&bytes, &given.pixels, asked.form, &mut out);
@@ -237,7 +143,7 @@ pub fn write(output: &mut Output, asked: &Write) -> Outcome<()> {
         10 => return Err(Failure::refused(&asked.pixels, 10)),
         number => return Err(refused(&asked.header, &bytes, number, answer.place, answer.column)),
     }
-    files::output(&asked.output, &out[..answer.length as usize], asked.force)?;
+    streams::output(&asked.output, &out[..answer.length as usize], asked.force)?;
     let (name, Form { width, underflow }) = (shown(&asked.output), asked.form);
     let form = form_text(width, underflow);
     let text =
@@ -247,14 +153,6 @@ pub fn write(output: &mut Output, asked: &Write) -> Outcome<()> {
         "bytes": answer.length,
     });
     output.say(&text, &value)
-}
-
-fn given(file: &Path) -> Outcome<Given> {
-    match ending(file) {
-        "npy" => pixels::from_npy(file, &files::read(file)?),
-        "raw" => pixels::from_raw(file, &files::read(file)?),
-        _ => Err(Failure::Usage(format!("`{}` must end in .npy or .raw", shown(file)))),
-    }
 }
 
 /// Counts of another shape, or more of them, are a mistake. Too few are the library's refusal 10.

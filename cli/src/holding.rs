@@ -7,6 +7,7 @@ use crate::files::{self, Access, Staged};
 use crate::ledger;
 use crate::locks;
 use crate::redo::{self, Record};
+use crate::streams;
 use crate::sums::Sums;
 use std::fs::{self, File};
 use std::io::{Error, ErrorKind};
@@ -51,7 +52,8 @@ impl Holding {
     pub fn named(path: &Path, wait: Option<Duration>) -> Outcome<Holding> {
         let ends = path.extension().is_some_and(|ending| ending == "held" || ending == "ledger");
         let name = if ends { path.with_extension("") } else { path.to_path_buf() };
-        if name.file_name().is_none() || path.as_os_str().as_encoded_bytes().ends_with(b"/") {
+        if name.file_name().is_none() || streams::is_stream(path) || path.as_os_str().as_encoded_bytes().ends_with(b"/")
+        {
             return Err(Failure::Usage(format!("`{}` is no name for a holding", shown(path))));
         }
         Ok(Holding::exactly(&name, wait))

@@ -7,19 +7,24 @@ mod clock;
 mod corrections;
 mod digest;
 mod dtrek;
+mod expand;
 mod failure;
 mod files;
+mod formats;
 mod frames;
 mod given;
 mod holding;
 mod holdings;
+mod info;
 mod ledger;
 mod locks;
 mod mar;
 mod names;
 mod opening;
+mod options;
 mod output;
 mod outputs;
+mod picture;
 mod pixels;
 mod purge_log;
 mod redo;
@@ -27,13 +32,16 @@ mod refusals;
 mod removal;
 mod room;
 mod rows;
+mod scale_bar;
 mod shard;
+mod streams;
 mod sums;
 mod sweep;
 mod table;
 mod total;
 mod totals;
 mod verify;
+mod view;
 mod walk;
 
 use args::{Cli, Command};
@@ -49,6 +57,7 @@ const SWEEP_WAIT: u32 = 10;
 
 fn main() -> ExitCode {
     clock::forget_the_callers_zone();
+    cbf::without_temporary_files();
     let (mut output, done) = match Cli::try_parse() {
         Ok(cli) => {
             let mut output = Output::new(cli.json);
@@ -76,9 +85,9 @@ fn misused(error: &clap::Error) -> Failure {
 fn run(output: &mut Output, command: Command, seconds: Option<u32>) -> Outcome<()> {
     let wait = seconds.map(|number| Duration::from_secs(number.into()));
     match command {
-        Command::Info(asked) => frames::info(output, &asked),
-        Command::Expand(asked) => frames::expand(output, &asked),
-        Command::View(asked) => frames::view(output, &asked),
+        Command::Info(asked) => info::info(output, &asked),
+        Command::Expand(asked) => expand::expand(output, &asked),
+        Command::View(asked) => view::view(output, &asked),
         Command::Write(asked) => frames::write(output, &asked),
         Command::Open(asked) => opening::open(output, &asked, wait),
         Command::Correct(asked) => corrections::correct(output, &asked, wait),

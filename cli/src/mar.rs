@@ -1,5 +1,6 @@
 //! mar images: the entries of the header, and what is said of them.
 use crate::failure::{shown, Failure, Outcome, Refused};
+use crate::info::{end_text, End};
 use crate::refusals::mar_sentence;
 use quayrudder::MarEntryAnswer;
 use serde_json::{json, Value};
@@ -70,13 +71,12 @@ impl Entries {
         self.whole(1) as usize * self.whole(2) as usize
     }
 
-    /// What `info` says of an image that ends at this byte of so many.
-    pub fn text(&self, file: &Path, end: u64, length: u64) -> String {
+    /// What `info` says of an image.
+    pub fn text(&self, file: &Path, end: Option<End>) -> String {
         let (columns, rows, pairs, records) = (self.whole(1), self.whole(2), self.whole(5), self.whole(6));
-        let name = shown(file);
+        let (name, end) = (shown(file), end_text("image", end));
         let start = format!(
-            "{name}: mar image, {rows} rows, {columns} columns\n  high-intensity: pairs {pairs}, records {records}\n  \
-             image ends at byte {end} of {length}"
+            "{name}: mar image, {rows} rows, {columns} columns\n  high-intensity: pairs {pairs}, records {records}\n  {end}"
         );
         let lines = self.0.iter().zip(NAMES).zip(1..);
         lines.fold(start, |text, ((answer, name), entry)| {
@@ -85,13 +85,13 @@ impl Entries {
     }
 
     /// The same for `--json`.
-    pub fn value(&self, file: &Path, end: u64, length: u64) -> Value {
+    pub fn value(&self, file: &Path, end: Option<End>) -> Value {
         let lines = self.0.iter().zip(NAMES).zip(1..);
         let entries: Vec<Value> = lines.map(|((answer, name), entry)| entry_value(answer, name, entry)).collect();
         json!({
             "file": shown(file), "format": "mar", "rows": self.whole(2), "columns": self.whole(1),
             "high_intensity_pixels": self.whole(5), "high_intensity_records": self.whole(6),
-            "end": end, "bytes": length, "entries": entries,
+            "end": end.map(|end| end.end), "bytes": end.map(|end| end.bytes), "entries": entries,
         })
     }
 }

@@ -6,10 +6,10 @@ use crate::given::Names;
 use crate::holding::Holding;
 use crate::output::Output;
 use crate::shard::Shard;
+use crate::streams;
 use crate::walk::{self, Kind};
 use std::collections::HashSet;
 use std::ffi::OsStr;
-use std::io::Read;
 use std::os::unix::ffi::OsStrExt;
 use std::path::{Component, Path, PathBuf};
 use std::sync::Arc;
@@ -90,7 +90,9 @@ pub fn holdings(asked: &Names, shard: Shard, is_folder: impl Fn(&Path) -> bool) 
 /// Frames, by name or below folders; a folder in there that outputs go into is left out.
 pub fn frames(asked: &Names, outputs: Option<&Path>) -> Outcome<Found> {
     let mut found = Found::new(Things::Frames, asked);
-    found.items.extend(words(asked)?.into_iter().map(|path| Item { path, below: None }));
+    let words = words(asked)?;
+    streams::must_come_once(words.iter().chain(&asked.names_from).map(PathBuf::as_path))?;
+    found.items.extend(words.into_iter().map(|path| Item { path, below: None }));
     for folder in &asked.below {
         let inside = outputs.and_then(|outputs| walk::inside(outputs, folder)).filter(|inside| inside != folder);
         let walked = walk::frames(folder, inside.as_deref())?;
@@ -108,20 +110,10 @@ fn words(asked: &Names) -> Outcome<Vec<PathBuf>> {
 
 /// The names in a file, each as its bytes are.
 fn list(file: &Path) -> Outcome<Vec<PathBuf>> {
-    let bytes = read(file)?;
+    let bytes = streams::input(file)?;
     let separator = if bytes.contains(&0) { 0 } else { b'\n' };
     let names = bytes.split(|byte| *byte == separator).filter(|name| !name.is_empty());
     Ok(names.map(|name| PathBuf::from(OsStr::from_bytes(name))).collect())
-}
-
-/// A file, or standard input for `-`.
-pub fn read(file: &Path) -> Outcome<Vec<u8>> {
-    if file != Path::new("-") {
-        return files::read(file);
-    }
-    let mut bytes = Vec::new();
-    let read = std::io::stdin().lock().read_to_end(&mut bytes);
-    read.map(|_| bytes).map_err(Failure::machine(Path::new("standard input"), "read"))
 }
 
 impl Found {

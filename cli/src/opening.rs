@@ -3,12 +3,12 @@ use crate::args::Open;
 use crate::batch::Said;
 use crate::digest::{hex, Digest, State};
 use crate::failure::{shown, Outcome};
-use crate::files;
 use crate::frames;
 use crate::holding::{Change, Holding};
 use crate::names;
 use crate::output::Output;
 use crate::outputs::Outputs;
+use crate::streams;
 use crate::sums;
 use quayrudder::{Form, OpenAnswer};
 use serde_json::json;
@@ -42,7 +42,7 @@ pub fn open(output: &mut Output, asked: &Open, wait: Option<Duration>) -> Outcom
 
 impl Opened {
     fn read(file: &Path, form: Form) -> Outcome<Opened> {
-        let frame = files::read(file)?;
+        let frame = streams::input(file)?;
         let header = frames::header(file, &frame)?;
         let mut pixels = vec![0; frames::pixel_count(&header)];
         let mut held = vec![0; frames::most_bytes(&header)];

@@ -1,5 +1,6 @@
 //! Where answers go: a text or one JSON object a line on standard output, failures in sentences on standard error.
 use crate::failure::{Failure, Outcome, DONE};
+use crate::streams;
 use indicatif::{ProgressBar, ProgressStyle};
 use serde_json::Value;
 use std::io::{self, ErrorKind, Write};
@@ -8,16 +9,34 @@ use std::path::Path;
 pub struct Output {
     json: bool,
     worst: u8,
+    /// Standard output is for an output file's bytes, and answers go to standard error.
+    aside: bool,
+}
+
+/// The bytes of an output file, and what is said of it once they are written.
+pub struct Made {
+    pub bytes: Vec<u8>,
+    pub text: String,
+    pub value: Value,
 }
 
 impl Output {
     pub fn new(json: bool) -> Output {
-        Output { json, worst: DONE }
+        Output { json, worst: DONE, aside: false }
+    }
+
+    /// Leaves standard output to an output file that is `-`.
+    pub fn make_way_for(&mut self, file: &Path) {
+        self.aside = streams::is_stream(file);
     }
 
     /// Says one answer. Text and value say the same.
     pub fn say(&mut self, text: &str, value: &Value) -> Outcome<()> {
         let line = if self.json { value.to_string() } else { text.trim_end().to_string() };
+        if self.aside {
+            eprintln!("{line}");
+            return Ok(());
+        }
         let mut out = io::stdout().lock();
         writeln!(out, "{line}").and_then(|()| out.flush()).map_err(unread)
     }

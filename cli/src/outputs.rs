@@ -1,8 +1,11 @@
 //! Where the outputs of frames go: to the file or holding that is named, or for many frames below a folder, by the
 //! frames' own names.
+use crate::batch::Said;
 use crate::failure::{shown, Failure, Outcome};
 use crate::files;
 use crate::names::{Doubled, Found, Item};
+use crate::output::Made;
+use crate::streams;
 use std::fs;
 use std::path::{Path, PathBuf};
 
@@ -48,13 +51,14 @@ impl<'a> Outputs<'a> {
         }
     }
 
-    /// Writes an output. False where a batch finds the very same bytes there already.
-    pub fn put(&self, path: &Path, bytes: &[u8], force: bool) -> Outcome<bool> {
+    /// Writes an output, and counts it by the first word; by the second where a batch finds the very same bytes there.
+    pub fn put(&self, path: &Path, made: Made, force: bool, words: [&'static str; 2]) -> Outcome<Said> {
+        let Made { bytes, text, value } = made;
         self.make_way(path)?;
-        if self.many && !force && is_there(path, bytes)? {
-            return Ok(false);
+        if self.many && !force && is_there(path, &bytes)? {
+            return Ok(Said { text, value, counted: words[1] });
         }
-        files::output(path, bytes, force).map(|()| true)
+        streams::output(path, &bytes, force).map(|()| Said { text, value, counted: words[0] })
     }
 }
 
@@ -64,10 +68,8 @@ fn is_there(path: &Path, bytes: &[u8]) -> Outcome<bool> {
 }
 
 fn must_be_folder(path: &Path) -> Outcome<()> {
-    match fs::metadata(path) {
-        Ok(found) if !found.is_dir() => {
-            Err(Failure::Usage(format!("`{}` must be a folder, since there may be many outputs", shown(path))))
-        }
-        _ => Ok(()),
+    match streams::is_stream(path) || fs::metadata(path).is_ok_and(|found| !found.is_dir()) {
+        true => Err(Failure::Usage(format!("`{}` must be a folder, since there may be many outputs", shown(path)))),
+        false => Ok(()),
     }
 }

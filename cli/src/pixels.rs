@@ -1,8 +1,7 @@
-//! Counts in files: .npy, raw 32-bit numbers, 16-bit PGM and the grey scale of a picture.
+//! Counts in files: .npy, raw 32-bit numbers, 16-bit PGM; and the counts that a picture shows black and white.
 use crate::failure::{Failure, Outcome};
-use clap::ValueEnum;
-use image::codecs::{png::PngEncoder, pnm};
-use image::{ColorType, ImageEncoder, ImageError};
+use image::codecs::pnm;
+use image::{ColorType, ImageError};
 use std::io::Error;
 use std::path::Path;
 
@@ -17,38 +16,6 @@ pub struct Counts {
 pub struct Given {
     pub shape: Option<(u64, u64)>,
     pub pixels: Vec<u32>,
-}
-
-/// How counts are written: by the ending of the file's name, or as asked for.
-#[derive(Clone, Copy, Debug, PartialEq, Eq, ValueEnum)]
-pub enum Format {
-    Npy,
-    Raw,
-    Pgm,
-}
-
-impl Format {
-    /// What a file of this format ends in.
-    pub fn ending(self) -> &'static str {
-        match self {
-            Format::Npy => "npy",
-            Format::Raw => "raw",
-            Format::Pgm => "pgm",
-        }
-    }
-
-    pub fn of_ending(ending: &str) -> Option<Format> {
-        Format::value_variants().iter().copied().find(|format| format.ending() == ending)
-    }
-
-    /// The counts as a file of this name has them.
-    pub fn bytes(self, file: &Path, counts: &Counts, clip: bool) -> Outcome<Vec<u8>> {
-        match self {
-            Format::Npy => Ok(npy(counts)),
-            Format::Raw => Ok(raw(&counts.pixels)),
-            Format::Pgm => pgm(file, counts, clip),
-        }
-    }
 }
 
 const NPY_MARK: &[u8; 6] = b"\x93NUMPY";
@@ -104,20 +71,7 @@ pub fn limits(pixels: &[u32], min: Option<u32>, max: Option<u32>) -> (u32, u32) 
     (low, quantile(1000).max(low))
 }
 
-/// A picture, black at `low` and below, white at `high` and above.
-pub fn png(file: &Path, counts: &Counts, (low, high): (u32, u32), log: bool) -> Outcome<Vec<u8>> {
-    let part = |count: u32| f64::from(count.clamp(low, high) - low);
-    let scale = |value: f64| if log { value.ln_1p() } else { value };
-    let whole = scale(part(high)).max(f64::MIN_POSITIVE);
-    let grey: Vec<u8> = counts.pixels.iter().map(|&count| (scale(part(count)) / whole * 255.0).round() as u8).collect();
-    let mut bytes = Vec::new();
-    PngEncoder::new(&mut bytes)
-        .write_image(&grey, counts.columns, counts.rows, ColorType::L8)
-        .map_err(encoder(file))?;
-    Ok(bytes)
-}
-
-fn encoder(file: &Path) -> impl FnOnce(ImageError) -> Failure + '_ {
+pub fn encoder(file: &Path) -> impl FnOnce(ImageError) -> Failure + '_ {
     |error| Failure::machine(file, "encode")(Error::other(error))
 }
 

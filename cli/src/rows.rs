@@ -8,6 +8,7 @@ use crate::holdings::{line_text, line_value};
 use crate::ledger::{self, Entry, Line};
 use crate::names;
 use crate::output::Output;
+use crate::streams;
 use crate::table::{self, Asked, Row};
 use serde_json::{json, Value};
 use std::collections::{HashMap, HashSet};
@@ -34,7 +35,7 @@ enum Answer {
 }
 
 pub fn correct(output: &mut Output, file: &Path, wait: Option<Duration>) -> Outcome<()> {
-    let table = table::read(&names::read(file)?).map_err(|why| Failure::declined(file, why))?;
+    let table = table::read(&streams::input(file)?).map_err(|why| Failure::declined(file, why))?;
     if !table.unused.is_empty() {
         let text = format!("columns not used: {}", table.unused.join(", "));
         output.note(&format!("{}: {text}", shown(file)), &json!({"file": shown(file), "not_used": table.unused}))?;

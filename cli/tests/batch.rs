@@ -1,7 +1,7 @@
 //! Many names at once: below folders, from lists, in order and with totals; and holdings that get the room they need.
 mod common;
 use common::header::Header;
-use common::{folder, frame, killed_in_turn, plain_frame, tables_frame, Folder, Ran};
+use common::{command, folder, frame, killed_in_turn, plain_frame, ran, tables_frame, Folder, Ran};
 use serde_json::Value;
 use std::fs::{self, File};
 use std::os::unix::fs::symlink;
@@ -272,6 +272,36 @@ fn info_says_every_file_below_folders() {
     assert!(ran.err.contains("more/notes.txt: refusal 1"), "{ran:?}");
     let ran = f.run("info --below nosuch");
     assert!(ran.status == Some(3) && ran.err.contains("nosuch: cannot read it"), "{ran:?}");
+}
+
+#[test]
+fn a_folder_that_cannot_be_read_is_said_and_counted() {
+    let f = tier();
+    f.done("open frames/b.sfrm --form 1 -o h");
+    let unread = |words: &str| {
+        let mut run = command();
+        run.args(words.split(' ')).current_dir(f.path()).env("FAULT_OPENDIR", "deep");
+        let ran = ran(run.output().unwrap());
+        assert!(ran.err.contains("frames/deep: cannot walk it"), "{words}: {ran:?}");
+        (ran.status, last(&ran.out).to_string())
+    };
+    let totals = "2 frames: 1 accepted, 0 refused, 0 declined, 0 damaged, 1 failed";
+    assert_eq!(unread("info --below frames"), (Some(3), totals.to_string()));
+    let totals = "2 holdings: 1 kept, 0 already kept, 0 refused, 0 declined, 0 damaged, 1 failed";
+    fs::rename(f.join("frames/h.held"), f.join("frames/k.held")).unwrap();
+    assert_eq!(unread("keep --below . 2031-11-02"), (Some(3), totals.to_string()));
+}
+
+#[test]
+fn standard_input_and_output_are_for_one() {
+    let f = tier();
+    for words in ["expand --below frames --as raw -o -", "view frames/b.sfrm frames/b.sfrm -o -", "info - -"] {
+        let ran = f.run_with(words, &plain_frame());
+        assert!(ran.status == Some(2) && ran.out.is_empty() && !f.has("-"), "{words}: {ran:?}");
+    }
+    assert_eq!(f.run_with("info - --names-from -", b"frames/b.sfrm").status, Some(2));
+    let ran = f.run_with("open - frames/b.sfrm --form 1 -o archive", &plain_frame());
+    assert!(ran.status == Some(0) && f.has("archive/-.held") && f.has("archive/b.held"), "{ran:?}");
 }
 
 #[test]

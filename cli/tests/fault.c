@@ -3,6 +3,7 @@
    FAULT=readonly: every call that would make, rename or remove a file fails with EROFS.
    FAULT_LOG names a file that gets a line for each call. FAULT_MARK names one that is made when call FAULT_AT comes.
    FAULT_OPENDIR: folders of this name cannot be read.
+   FAULT_READS names a file that gets a line for each read, with how many bytes came and of which file, and for each advice on reading.
    FAULT_CLOCK: the time of day in seconds, which stands still. FAULT_RENAMEAT2: every renameat2 fails with this errno.
    FAULT_RUN: a shell command that is run, without this library, once before the call that FAULT_RUN_AT names by its line, or else before
    every call, with the line in CALL. For this, opening a file to read is a call too. */
@@ -101,6 +102,25 @@ static const char *path_of(int fd) {
     int planned = due(call, path, makes); \
     if (planned == FAIL) return -1
 
+static void note_read(const char *what, long number, int fd) {
+    const char *log = getenv("FAULT_READS");
+    if (!log) return;
+    int error = errno;
+    char start[64], line[4300];
+    snprintf(start, sizeof start, "%s%ld", what, number);
+    snprintf(line, sizeof line, "%s\n", line_of(start, path_of(fd)));
+    note(log, line);
+    errno = error;
+}
+ssize_t read(int fd, void *bytes, size_t n) {
+    ssize_t got = syscall(SYS_read, fd, bytes, n);
+    note_read("", got, fd);
+    return got;
+}
+int posix_fadvise64(int fd, off64_t at, off64_t n, int advice) {
+    note_read("advice ", advice, fd);
+    return syscall(SYS_fadvise64, fd, at, n, advice) ? errno : 0;
+}
 ssize_t write(int fd, const void *bytes, size_t n) {
     ON("write", path_of(fd), 0);
     return done(planned, REAL(write, int, const void *, size_t)(fd, bytes, planned == TORN ? n / 2 : n));

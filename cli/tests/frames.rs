@@ -1,13 +1,9 @@
 //! info, expand, view, write, and refusals 1 to 16, by the real command.
 mod common;
 use common::header::{Header, LENGTH};
-use common::{folder, frame, old_frame, plain_frame, tables_frame, Folder, OLD_ENTRY};
+use common::{folder, frame, old_frame, plain_frame, raw, tables_frame, Folder, OLD_ENTRY};
 
 const TABLES: [u32; 4] = [35, 332, 70032, 30];
-
-fn raw(counts: &[u32]) -> Vec<u8> {
-    counts.iter().flat_map(|count| count.to_le_bytes()).collect()
-}
 
 #[test]
 fn info_says_what_a_frame_is() {
@@ -121,8 +117,10 @@ fn an_output_that_exists_is_kept_unless_forced() {
 fn an_unknown_ending_is_bad_usage() {
     let f = folder();
     f.put("a.sfrm", plain_frame());
-    let ends =
-        [("expand a.sfrm -o a.txt", "must end in .npy, .raw or .pgm"), ("view a.sfrm -o a.jpg", "must end in .png")];
+    let ends = [
+        ("expand a.sfrm -o a.txt", "must end in .npy, .raw, .pgm, .tif, .edf or .cbf, or --as must say one of them"),
+        ("view a.sfrm -o a.jpg", "must end in .png"),
+    ];
     for (words, part) in ends {
         let ran = f.run(words);
         assert!(ran.status == Some(2) && ran.err.contains(part), "{ran:?}");

@@ -9,10 +9,14 @@ mod digest;
 mod failure;
 #[path = "../src/files.rs"]
 mod files;
+#[path = "../src/formats.rs"]
+mod formats;
 #[path = "../src/given.rs"]
 mod given;
 #[path = "../src/ledger.rs"]
 mod ledger;
+#[path = "../src/options.rs"]
+mod options;
 #[path = "../src/output.rs"]
 mod output;
 #[path = "../src/pixels.rs"]
@@ -23,6 +27,8 @@ mod redo;
 mod refusals;
 #[path = "../src/shard.rs"]
 mod shard;
+#[path = "../src/streams.rs"]
+mod streams;
 #[path = "../src/sums.rs"]
 mod sums;
 #[path = "../src/table.rs"]
@@ -203,12 +209,14 @@ fn sums_files() {
 }
 
 #[test]
-fn dates_forms_and_pixels() {
-    let samples = ["2031-11-02", "0001-01-01", "9999-99-99", "1", "1+2", "4", "2577", "5,17", "18446744073709551615,1"];
-    let samples = samples.map(|word| word.as_bytes().to_vec());
+fn dates_forms_pixels_and_ranges() {
+    let dates = ["2031-11-02", "0001-01-01", "9999-99-99"];
+    let others = ["1", "1+2", "4", "2577", "5,17", "18446744073709551615,1", "0..4", "90..110"];
+    let samples: Vec<Vec<u8>> = dates.iter().chain(&others).map(|word| word.as_bytes().to_vec()).collect();
     feed(4, &samples, |bytes| {
         let word = text(bytes);
-        args::parse_date(&word).is_ok() | args::parse_form(&word).is_ok() | args::parse_place(&word).is_ok()
+        let is_range = options::parse_range(&word).is_ok();
+        args::parse_date(&word).is_ok() | args::parse_form(&word).is_ok() | args::parse_place(&word).is_ok() | is_range
     });
 }
 

@@ -196,6 +196,11 @@ pub fn frame(header: Header, rest: &[u8]) -> Vec<u8> {
     [header.bytes(), rest.to_vec()].concat()
 }
 
+/// Counts as `expand` writes them as .raw.
+pub fn raw(counts: &[u32]) -> Vec<u8> {
+    counts.iter().flat_map(|count| count.to_le_bytes()).collect()
+}
+
 /// One row with entries in every table, which reads as 35 332 70032 30.
 pub fn tables_frame() -> Vec<u8> {
     let header = Header::new(1, 4).line(20, "NOVERFL:1 2 1").line(39, "NPIXELB:1 1");
