@@ -235,11 +235,12 @@ fn many_frames_are_expanded_as_asked() {
     assert_eq!((ran.status, ran.out.as_str()), (Some(4), expected), "{ran:?}");
     f.done("expand frames/deep/a.sfrm -o one.raw");
     assert_eq!(f.get("frames/counts/deep/a.raw"), f.get("one.raw"));
-    f.put("frames/counts/b.raw", "mine");
+    let mine = [7; 64];
+    f.put("frames/counts/b.raw", mine);
     let again = f.run(words);
     let totals = "3 frames: 0 expanded, 1 already expanded, 1 refused, 1 declined, 0 damaged, 0 failed";
     assert!(again.status == Some(4) && last(&again.out) == totals, "{again:?}");
-    assert_eq!(f.get("frames/counts/b.raw"), b"mine");
+    assert_eq!(f.get("frames/counts/b.raw"), mine);
     let ran = f.run("expand --below frames -o counts");
     assert!(ran.status == Some(2) && ran.err.contains("--as"), "{ran:?}");
     f.done("expand frames/b.sfrm --as pgm -o picture.dat");
@@ -326,9 +327,9 @@ fn a_holding_without_room_is_corrected_all_the_same() {
     f.done("open a.sfrm --form 1+2 --room 0 -o a");
     let length = |f: &Folder| f.get("a.held").len();
     let (start, mut longest) = (length(&f), 0);
-    // Seventeen of each kind, so that every table takes a second line of 16 bytes: below the baseline, of two bytes, of four.
+    // Seventeen of each kind, so that every table takes a second line of 16 bytes: of four bytes (and of two: 32 at once), below the baseline, of two.
     for step in 0..51 {
-        let (pixel, count) = (step, [3, 300, 70_000][step % 3]);
+        let (pixel, count) = (step, [70_000, 3, 300][step % 3]);
         assert!(f.done(&format!("correct a {pixel} {count}")).contains(&format!("from 60 to {count}\n")));
         let said = f.done("verify a");
         assert!(said.contains(&format!("{} lines, {} standing", step + 1, step + 1)), "{said}");

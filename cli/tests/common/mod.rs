@@ -137,7 +137,8 @@ impl Folder {
         let mut run = command();
         run.args(words.split(' ')).current_dir(self.path()).stdin(Stdio::piped());
         let mut child = run.stdout(Stdio::piped()).stderr(Stdio::piped()).spawn().unwrap();
-        child.stdin.take().unwrap().write_all(input).unwrap();
+        // A command that declines has no use for its input.
+        let _ = child.stdin.take().unwrap().write_all(input);
         ran(child.wait_with_output().unwrap())
     }
 
