@@ -188,7 +188,7 @@ mod tests {
             b"\xef\xbb\xbfCount;Pixel; Holding \n90;5;a\n4294967295;6;b c\n;;\n",
             b"count\tpixel\tholding\twho\n90\t5\ta\tanna\n4294967295\t6\tb c\t\n",
             b"{\"holding\":\"a\",\"pixel\":5,\"count\":\"90\"}\n\n{\"pixel\":6,\"count\":4294967295,\"holding\":\"b c\"}",
-            b" \n{\"Holding\":\"a\",\"pixel\":5,\"count\":90,\"row\":null}\n{\"pixel\":\"6\",\"count\":4294967295,\"holding\":\"b c\",\"row\":\"\"}\r\n",
+            b"\xef\xbb\xbf \n{\"Holding\":\"a\",\"pixel\":5,\"count\":90,\"row\":null}\n{\"pixel\":\"6\",\"count\":4294967295,\"holding\":\"b c\",\"row\":\"\"}\r\n",
         ];
         for table in tables {
             assert_eq!(rows(table), expected, "{}", text(table));

@@ -235,11 +235,12 @@ fn many_frames_are_expanded_as_asked() {
     assert_eq!((ran.status, ran.out.as_str()), (Some(4), expected), "{ran:?}");
     f.done("expand frames/deep/a.sfrm -o one.raw");
     assert_eq!(f.get("frames/counts/deep/a.raw"), f.get("one.raw"));
-    f.put("frames/counts/b.raw", "mine");
+    let mine = [7; 64];
+    f.put("frames/counts/b.raw", mine);
     let again = f.run(words);
     let totals = "3 frames: 0 expanded, 1 already expanded, 1 refused, 1 declined, 0 damaged, 0 failed";
     assert!(again.status == Some(4) && last(&again.out) == totals, "{again:?}");
-    assert_eq!(f.get("frames/counts/b.raw"), b"mine");
+    assert_eq!(f.get("frames/counts/b.raw"), mine);
     let ran = f.run("expand --below frames -o counts");
     assert!(ran.status == Some(2) && ran.err.contains("--as"), "{ran:?}");
     f.done("expand frames/b.sfrm --as pgm -o picture.dat");

@@ -134,7 +134,7 @@ fn a_table_given_again_is_not_made_again() {
 #[test]
 fn the_rows_of_a_holding_are_one_change() {
     let f = three();
-    f.put("t.csv", "holding,pixel,count\na,1,300\nb,1,1\na,2,70000\na,3,3\n");
+    f.put("t.csv", "holding,pixel,count\na,1,300\nb,1,1\n./a,2,70000\na.ledger,3,3\n");
     let log = f.join("log");
     let mut run = command();
     run.args(["correct", "--from", "t.csv"]).current_dir(f.path()).env("FAULT_LOG", &log).env("RAYON_NUM_THREADS", "1");
