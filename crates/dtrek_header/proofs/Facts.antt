@@ -15,8 +15,8 @@ use Rattle.numeral.specs.declared.Number.{Number}
 use Rattle.numeral.specs.declared.Number.the-variants.{Value, NotANumber}
 use Rattle.refusal.specs.declared.Refusal.the-variants as R
 use Rattle.dtrek_text.specs.Bytes.{between}
-use Rattle.dtrek_text.specs.Items.{Item, items, wellWritten}
-use Rattle.dtrek_items.specs.Lookup.{repeated}
+use Rattle.dtrek_text.specs.Items.{Item, items}
+use Rattle.dtrek_items.specs.Survey.{isMalformed}
 use Rattle.dtrek_header.specs.declared.DtrekHeader.{DtrekHeader}
 use Rattle.dtrek_header.specs.declared.DtrekHeaderAnswer.{DtrekHeaderAnswer}
 use Rattle.dtrek_header.specs.declared.DtrekHeaderAnswer.the-variants as A
@@ -65,7 +65,7 @@ module _ (n : ℕ) (is : List Item) where
 
 bounded-in : (n : ℕ) (text : List ℕ) {h : DtrekHeader} → n ≤ 99840 → headerIn n text ≡ A.Accepted h → Bounded h
 unfolding headerIn contentsIn
-bounded-in n text l p = bounded-if n (items text) (not (wellWritten text) || repeated (items text)) _ (not (supported (items text))) l refl p
+bounded-in n text l p = bounded-if n (items text) (isMalformed text) _ (not (supported (items text))) l refl p
 
 bounded-by : (bytes : List ℕ) {h : DtrekHeader} (n : ℕ) (t : Bool) → n ≤ 99840 → if_then_else_ t (A.Refused R.HeaderTruncated) (headerIn n (between 1 n bytes)) ≡ A.Accepted h → Bounded h
 bounded-by bytes n true l p = let z : _≡_ {A = ℕ} 0 1 = cc in absurd (omega arith)

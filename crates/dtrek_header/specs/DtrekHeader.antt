@@ -1,13 +1,13 @@
 -- Request A9: what a d*TREK header says, for any bytes. Refusals 32, 1, 33, 34 and 35 in this order.
 use Prim.Native.Nat.{ℕ, _≤_}
 use mathlib.Core.List.{List}
-use mathlib.Core.Bool.{Bool, not, _||_}
+use mathlib.Core.Bool.{not}
 use lib.ListN.{length}
 use lib.Dec.{ltb}
 use Rattle.lists.specs.Choose.{if_then_else_}
 use Rattle.dtrek_text.specs.Bytes.{between}
-use Rattle.dtrek_text.specs.Items.{Item, items, wellWritten}
-use Rattle.dtrek_items.specs.Lookup.{repeated}
+use Rattle.dtrek_text.specs.Items.{Item, items}
+use Rattle.dtrek_items.specs.Survey.{isMalformed}
 use Rattle.dtrek_header.specs.declared.DtrekHeader.{DtrekHeader}
 use Rattle.dtrek_header.specs.declared.Length.{Length}
 use Rattle.dtrek_header.specs.declared.Length.the-variants as L
@@ -28,7 +28,7 @@ contentsIn n is =
 -- 33 first: a header of n bytes, of which the text is all behind the opening brace
 unfoldable pub headerIn : ℕ → List ℕ → DtrekHeaderAnswer
 headerIn n text =
-    if not (wellWritten text) || repeated (items text) then A.Refused R.BadSyntax else
+    if isMalformed text then A.Refused R.BadSyntax else
     contentsIn n (items text)
 
 abbrev pub headerBy : List ℕ → Length → DtrekHeaderAnswer

@@ -1,10 +1,17 @@
 // The header of a d*TREK image: any bytes give its numbers or one refusal.
 ghost use mathlib.Core.Path.{_≡_};
+ghost use Prim.Native.Nat.{_≤_};
+ghost use lib.ListN.{length};
+ghost use Rattle.numeral.specs.Numerals.{numberOf};
 ghost use Rattle.dtrek_text.specs.Items.{items};
+ghost use Rattle.dtrek_items.specs.Survey.{valueAt, Found};
 ghost use Rattle.dtrek_header.specs.Length.{lengthFrom, headerLength};
-ghost use Rattle.dtrek_header.specs.Contents.{numberUnder, isTwo, isSide, areSizes, isOrder, requiredFrom, isType, supportedFrom, countOf, orderOf, widthOf, headerFrom};
+ghost use Rattle.dtrek_header.specs.Contents.{isTwo, isSide, areSizes, isOrder, requiredFrom, isType, supportedFrom, countOf, orderOf, widthOf, headerFrom};
 ghost use Rattle.dtrek_header.specs.DtrekHeader.{contentsIn, headerIn, dtrekHeader};
 use byte_order::ByteOrder;
+use dtrek_items::Content;
+use dtrek_items::Contents;
+use dtrek_items::ItemsAnswer;
 use layout::Image;
 use layout::Width;
 use numeral::Number;
@@ -60,10 +67,10 @@ pub fn header_length(file: &[u8]) -> Length
     }
 }
 
-fn number_under<'a>(text: &'a [u8], key: &'a [u8]) -> Number
-    ensures { λ r. ⌜ r ≡ numberUnder (now (key .entry)) (items (now (text .entry))) ⌝ }
+fn number_at(text: &[u8], c: Content) -> Number
+    ensures { λ r. ⌜ r ≡ numberOf (valueAt (now (text .entry)) c) ⌝ }
 {
-    numeral::number_of(dtrek_items::value(text, key))
+    numeral::number_of(dtrek_items::value(text, c))
 }
 
 fn is_two(number: Number) -> bool
@@ -109,10 +116,18 @@ fn is_order(v: &[u8]) -> bool
 }
 
 // Refusal 34: what must be there.
-fn has_required<'a>(text: &'a [u8], columns: Number, rows: Number, order: &'a [u8]) -> bool
+fn has_required<'a>(
+    text: &'a [u8],
+    f: Contents,
+    columns: Number,
+    rows: Number,
+    order: &'a [u8],
+) -> bool
+    requires { ⌜ Found (now text) f ⌝ }
     ensures { λ r. ⌜ r ≡ requiredFrom columns rows (now (order .entry)) (items (now (text .entry))) ⌝ }
 {
-    if is_two(number_under(text, b"DIM")) {} else {
+    let dim = f.dim;
+    if is_two(number_at(text, dim)) {} else {
         return false;
     }
     if are_sizes(columns, rows) {} else {
@@ -121,7 +136,8 @@ fn has_required<'a>(text: &'a [u8], columns: Number, rows: Number, order: &'a [u
     if is_order(order) {} else {
         return false;
     }
-    dtrek_items::has_key(text, b"Data_type")
+    let kind = f.kind;
+    dtrek_items::is_there(kind)
 }
 
 fn is_type(v: &[u8]) -> bool
@@ -137,14 +153,16 @@ fn is_type(v: &[u8]) -> bool
 }
 
 // Refusal 35: what can be read.
-fn is_supported<'a>(text: &'a [u8], kind: &'a [u8]) -> bool
+fn is_supported<'a>(text: &'a [u8], f: Contents, kind: &'a [u8]) -> bool
+    requires { ⌜ Found (now text) f ⌝ }
     ensures { λ r. ⌜ r ≡ supportedFrom (now (kind .entry)) (items (now (text .entry))) ⌝ }
 {
     if is_type(kind) {} else {
         return false;
     }
-    if dtrek_items::has_key(text, b"COMPRESSION") {
-        return dtrek_text::same(dtrek_items::value(text, b"COMPRESSION"), b"none");
+    let compression = f.compression;
+    if dtrek_items::is_there(compression) {
+        return dtrek_text::same(dtrek_items::value(text, compression), b"none");
     }
     true
 }
@@ -200,18 +218,23 @@ fn header_from<'a>(
     }
 }
 
-// The contents of a text that is well written.
-fn read_items(text: &[u8], n: u32) -> DtrekHeaderAnswer
+// What the values say that were found.
+fn read_items(text: &[u8], f: Contents, n: u32) -> DtrekHeaderAnswer
+    requires { ⌜ Found (now text) f ⌝ }
     ensures { λ r. ⌜ r ≡ contentsIn n (items (now (text .entry))) ⌝ }
 {
-    let columns = number_under(text, b"SIZE1");
-    let rows = number_under(text, b"SIZE2");
-    let order = dtrek_items::value(text, b"BYTE_ORDER");
-    let kind = dtrek_items::value(text, b"Data_type");
-    if has_required(text, columns, rows, order) {} else {
+    let size1 = f.size1;
+    let size2 = f.size2;
+    let byte_order = f.order;
+    let data_type = f.kind;
+    let columns = number_at(text, size1);
+    let rows = number_at(text, size2);
+    let order = dtrek_items::value(text, byte_order);
+    let kind = dtrek_items::value(text, data_type);
+    if has_required(text, f, columns, rows, order) {} else {
         return DtrekHeaderAnswer::Refused(Refusal::BadContent);
     }
-    if is_supported(text, kind) {
+    if is_supported(text, f, kind) {
         DtrekHeaderAnswer::Accepted(header_from(n, columns, rows, kind, order))
     } else {
         DtrekHeaderAnswer::Refused(Refusal::UnsupportedData)
@@ -219,15 +242,14 @@ fn read_items(text: &[u8], n: u32) -> DtrekHeaderAnswer
 }
 
 fn read_text(text: &[u8], n: u32) -> DtrekHeaderAnswer
+    requires { ⌜ length (now text) ≤ 99840 ⌝ }
     ensures { λ r. ⌜ r ≡ headerIn n (now (text .entry)) ⌝ }
 {
-    if dtrek_items::is_well_written(text) {} else {
-        return DtrekHeaderAnswer::Refused(Refusal::BadSyntax);
+    match dtrek_items::survey(text) {
+        ItemsAnswer::Sound(f) => read_items(text, f, n),
+        ItemsAnswer::Malformed => DtrekHeaderAnswer::Refused(Refusal::BadSyntax),
+        ItemsAnswer::TooLong => DtrekHeaderAnswer::Refused(Refusal::BadSyntax),
     }
-    if dtrek_items::has_repeated(text) {
-        return DtrekHeaderAnswer::Refused(Refusal::BadSyntax);
-    }
-    read_items(text, n)
 }
 
 // The numbers of an accepted header, or refusal 32, 1, 33, 34 or 35.

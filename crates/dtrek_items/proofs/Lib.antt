@@ -1,4 +1,4 @@
-mod Loops
 mod Ordering
 mod Inserting
 mod Keeping
+mod Noting

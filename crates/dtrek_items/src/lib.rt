@@ -1,123 +1,57 @@
-// The items of a d*TREK header's text: the value under a keyword, and whether a keyword stands twice.
+// The items of a d*TREK header's text in one pass: the syntax, a keyword twice, and where the values stand that are read.
 ghost use mathlib.Core.Path.{_≡_};
 ghost use Prim.Native.Nat.{_+_, _*_, _≤_, _<_};
 ghost use lib.ListN.{length};
-ghost use Rattle.dtrek_text.specs.Items.{items, wellWritten};
-ghost use Rattle.dtrek_items.specs.Lookup.{has, valueOf, repeated};
 ghost use Rattle.dtrek_items.specs.Keys.{compared, Rising, Sought, Inserted};
+ghost use Rattle.dtrek_items.specs.Survey.{isThere, valueAt, Surveyed, noContents, noted, notedAll};
 use dtrek_text::Cursor;
 use dtrek_text::Scanned;
 
-// Whether an item has this keyword.
-pub fn has_key(text: &[u8], key: &[u8]) -> bool
-    ensures { λ r. ⌜ r ≡ has (now (key .entry)) (items (now (text .entry))) ⌝ }
-{
-    let mut c = Cursor { at: 0 };
-    loop {
-        match c.item(text) {
-            Scanned::Found {
-                start,
-                end,
-                stop: _,
-                next,
-            } => {
-                if dtrek_text::same(&text[start..end], key) {
-                    return true;
-                }
-                c = next;
-            }
-            Scanned::Bad => {
-                return false;
-            }
-            Scanned::Last => {
-                return false;
-            }
-        }
-    }
+// Where the content of an item stands: from behind its equals sign to its semicolon. Both are 0 where there is no such item.
+pub struct Content {
+    pub from: usize,
+    pub stop: usize,
 }
 
-// The value of the first item with this keyword; nothing where there is none.
-pub fn value<'a>(text: &'a [u8], key: &'a [u8]) -> &'a [u8]
-    ensures { λ r. ⌜ now r ≡ valueOf (now (key .entry)) (items (now (text .entry))) ⌝ }
-{
-    let mut c = Cursor { at: 0 };
-    loop {
-        match c.item(text) {
-            Scanned::Found {
-                start,
-                end,
-                stop,
-                next,
-            } => {
-                if dtrek_text::same(&text[start..end], key) {
-                    let from = end + 1;
-                    return dtrek_text::trim(&text[from..stop]);
-                }
-                c = next;
-            }
-            Scanned::Bad => {
-                return &text[..0];
-            }
-            Scanned::Last => {
-                return &text[..0];
-            }
-        }
-    }
+// The contents under the keywords that are read.
+pub struct Contents {
+    pub dim: Content,
+    pub size1: Content,
+    pub size2: Content,
+    pub order: Content,
+    pub kind: Content,
+    pub compression: Content,
 }
 
-// Whether two items have the same keyword, by a scan of the rest for each.
-fn scan_repeated(text: &[u8]) -> bool
-    ensures { λ r. ⌜ r ≡ repeated (items (now (text .entry))) ⌝ }
-{
-    let mut c = Cursor { at: 0 };
-    loop {
-        match c.item(text) {
-            Scanned::Found {
-                start,
-                end,
-                stop: _,
-                next,
-            } => {
-                let at = next.at;
-                if has_key(&text[at..], &text[start..end]) {
-                    return true;
-                }
-                c = next;
-            }
-            Scanned::Bad => {
-                return false;
-            }
-            Scanned::Last => {
-                return false;
-            }
-        }
-    }
+// Malformed is refusal 33. TooLong is for a text that is longer than any header.
+pub enum ItemsAnswer {
+    Sound(Contents),
+    Malformed,
+    TooLong,
 }
 
-// Whether the text is items and then the header's end.
-pub fn is_well_written(text: &[u8]) -> bool
-    ensures { λ r. ⌜ r ≡ wellWritten (now (text .entry)) ⌝ }
+pub fn is_there(c: Content) -> bool
+    ensures { λ r. ⌜ r ≡ isThere c ⌝ }
 {
-    let mut c = Cursor { at: 0 };
-    loop {
-        let at = c.at;
-        match c.item(text) {
-            Scanned::Found {
-                start: _,
-                end: _,
-                stop: _,
-                next,
-            } => {
-                c = next;
-            }
-            Scanned::Bad => {
-                return false;
-            }
-            Scanned::Last => {
-                return dtrek_text::is_end(&text[at..]);
-            }
-        }
+    c.stop != 0
+}
+
+// The value of an item, from the text that its content was found in.
+pub fn value(text: &[u8], c: Content) -> &[u8]
+    ensures { λ r. ⌜ now r ≡ valueAt (now (text .entry)) c ⌝ }
+{
+    let from = c.from;
+    let stop = c.stop;
+    if stop <= from {
+        return &text[..0];
     }
+    if text.len() <= from {
+        return &text[..0];
+    }
+    if text.len() < stop {
+        return dtrek_text::trim(&text[from..]);
+    }
+    dtrek_text::trim(&text[from..stop])
 }
 
 // Which of two byte strings comes first.
@@ -194,63 +128,113 @@ fn insert(places: &mut [u32], k: usize, i: usize, start: u32)
     places[i] = start;
 }
 
-// Whether two items have the same keyword. An item takes four bytes at least.
-fn any_repeated(text: &[u8], places: &mut [u32]) -> bool
+// The content under a keyword, if this item is the first that has it.
+fn note<'a>(c: Content, word: &'a [u8], key: &'a [u8], here: Content) -> Content
+    ensures { λ r. ⌜ r ≡ noted (now (key .entry)) (now (word .entry)) here c ⌝ }
+{
+    if is_there(c) {
+        return c;
+    }
+    if dtrek_text::same(word, key) { here } else { c }
+}
+
+fn note_all(f: Contents, word: &[u8], here: Content) -> Contents
+    ensures { λ r. ⌜ r ≡ notedAll (now (word .entry)) here f ⌝ }
+{
+    let dim = f.dim;
+    let size1 = f.size1;
+    let size2 = f.size2;
+    let order = f.order;
+    let kind = f.kind;
+    let compression = f.compression;
+    Contents {
+        dim: note(dim, word, b"DIM", here),
+        size1: note(size1, word, b"SIZE1", here),
+        size2: note(size2, word, b"SIZE2", here),
+        order: note(order, word, b"BYTE_ORDER", here),
+        kind: note(kind, word, b"Data_type", here),
+        compression: note(compression, word, b"COMPRESSION", here),
+    }
+}
+
+fn no_contents() -> Contents
+    ensures { λ r. ⌜ r ≡ noContents ⌝ }
+{
+    let none = Content { from: 0, stop: 0 };
+    Contents {
+        dim: none,
+        size1: none,
+        size2: none,
+        order: none,
+        kind: none,
+        compression: none,
+    }
+}
+
+// The places of the keywords are kept in the order of the keywords, so that any header takes little time. An item takes four bytes at least.
+fn survey_with(text: &[u8], places: &mut [u32]) -> ItemsAnswer
     requires { ⌜ (length (now text) ≤ 99840) × (length (now text) ≤ 4 * length (now places)) ⌝ }
-    ensures { λ r. ⌜ r ≡ repeated (items (now (text .entry))) ⌝ }
+    ensures { λ r. ⌜ Surveyed (now (text .entry)) r ⌝ }
 {
     let mut c = Cursor { at: 0 };
     let mut k = 0;
+    let mut f = no_contents();
     loop {
+        let at = c.at;
         match c.item(text) {
             Scanned::Found {
                 start,
                 end,
-                stop: _,
+                stop,
                 next,
             } => {
                 let Slot::Free(i) = find(text, &places[..k], &text[start..end]) else {
-                    return true;
+                    return ItemsAnswer::Malformed;
                 };
                 insert(places, k, i, start as u32);
                 k += 1;
+                let from = end + 1;
+                f = note_all(f, &text[start..end], Content { from, stop });
                 c = next;
             }
             Scanned::Bad => {
-                return false;
+                return ItemsAnswer::Malformed;
             }
             Scanned::Last => {
-                return false;
+                if dtrek_text::is_end(&text[at..]) {
+                    return ItemsAnswer::Sound(f);
+                }
+                return ItemsAnswer::Malformed;
             }
         }
     }
 }
 
-fn few_repeated(text: &[u8]) -> bool
+fn survey_short(text: &[u8]) -> ItemsAnswer
     requires { ⌜ length (now text) ≤ 8192 ⌝ }
-    ensures { λ r. ⌜ r ≡ repeated (items (now (text .entry))) ⌝ }
+    ensures { λ r. ⌜ Surveyed (now (text .entry)) r ⌝ }
 {
     let mut places = [0u32; 2048];
-    any_repeated(text, &mut places)
+    survey_with(text, &mut places)
 }
 
-fn many_repeated(text: &[u8]) -> bool
+fn survey_long(text: &[u8]) -> ItemsAnswer
     requires { ⌜ length (now text) ≤ 99840 ⌝ }
-    ensures { λ r. ⌜ r ≡ repeated (items (now (text .entry))) ⌝ }
+    ensures { λ r. ⌜ Surveyed (now (text .entry)) r ⌝ }
 {
     let mut places = [0u32; 24960];
-    any_repeated(text, &mut places)
+    survey_with(text, &mut places)
 }
 
-// Whether two items have the same keyword: their places are kept in order, so that a header of any keywords takes little time.
-pub fn has_repeated(text: &[u8]) -> bool
-    ensures { λ r. ⌜ r ≡ repeated (items (now (text .entry))) ⌝ }
+// The items of a text in one pass: refusal 33, or where the values stand that are read. A usual header clears little memory.
+pub fn survey(text: &[u8]) -> ItemsAnswer
+    ensures { λ r. ⌜ Surveyed (now (text .entry)) r ⌝ }
 {
     if text.len() <= 8192 {
-        return few_repeated(text);
+        return survey_short(text);
     }
     if text.len() <= 99840 {
-        return many_repeated(text);
+        return survey_long(text);
     }
-    scan_repeated(text)
+    ItemsAnswer::TooLong
 }

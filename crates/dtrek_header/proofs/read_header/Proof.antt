@@ -2,6 +2,7 @@ use Rattle.dtrek_header.proofs.Laws.{length-listed}
 use Rattle.dtrek_header.specs.DtrekHeader.{dtrekHeader}
 use borrow.Author.Tests.{lt-ltb, le-ltb}
 use native.Mathlib.Omega.{arith}
+use lib.ListN.{length-take}
 use mathlib.Core.Path.{sym, _∙_}
 use borrow.Author.Needs.{needs}
 use Rattle.dtrek_header.proofs.read_header.Statement.{statement}
@@ -45,7 +46,9 @@ part-read-text-end : tie.Need-part-read-text-end
 part-read-text-end c = search needs
 
 read-text-requires : tie.Need-read-text-requires
-read-text-requires c κs = search needs
+read-text-requires c κs =
+    let l = length-listed _ (sym (c .before .before .before .n .given .1) ∙ c .before .before .before .before .before .header-length .ensures) in
+    simp length-take (omega (arith, l .high))
 
 returns-3 : tie.Need-returns-3
 unfolding dtrekHeader

@@ -8,29 +8,17 @@ use Rattle.dtrek_header.proofs.read_items.Lts as lts
 use Rattle.dtrek_header.proofs.has_required.Reads as has-required-reads
 use Rattle.dtrek_header.proofs.header_from.Reads as header-from-reads
 use Rattle.dtrek_header.proofs.is_supported.Reads as is-supported-reads
-use Rattle.dtrek_header.proofs.number_under.Reads as number-under-reads
+use Rattle.dtrek_header.proofs.number_at.Reads as number-at-reads
 use Rattle.dtrek_items.proofs.value.Reads as value-reads
 
-slice-aggregate-number-under : tie.Need-slice-aggregate-number-under
-slice-aggregate-number-under c = search needs
+number-at-requires : tie.Need-number-at-requires
+number-at-requires c κs = search needs
 
-number-under-requires : tie.Need-number-under-requires
-number-under-requires c κs = search needs
-
-slice-aggregate-number-under-2 : tie.Need-slice-aggregate-number-under-2
-slice-aggregate-number-under-2 c = search needs
-
-number-under-requires-2 : tie.Need-number-under-requires-2
-number-under-requires-2 c κs = search needs
-
-slice-aggregate-value : tie.Need-slice-aggregate-value
-slice-aggregate-value c = search needs
+number-at-requires-2 : tie.Need-number-at-requires-2
+number-at-requires-2 c κs = search needs
 
 value-requires : tie.Need-value-requires
 value-requires c κs = search needs
-
-slice-aggregate-value-2 : tie.Need-slice-aggregate-value-2
-slice-aggregate-value-2 c = search needs
 
 value-requires-2 : tie.Need-value-requires-2
 value-requires-2 c κs = search needs
@@ -40,7 +28,7 @@ has-required-requires c κs = search needs
 
 returns : tie.Need-returns
 unfolding contentsIn required
-returns c = rw (← c .before .before .before .before .before .before .before .before .number-under .ensures, ← c .before .before .before .before .before .before .number-under2 .ensures, ← c .before .before .before .before .value .ensures, ← c .before .has-required .ensures, c .if1 .left)
+returns c = rw (← c .before .before .before .before .before .before .before .before .before .before .before .pre .size1 .value, ← c .before .before .before .before .before .number-at .ensures, ← c .before .before .before .before .before .before .before .before .before .before .before .pre .size2 .value, ← c .before .before .before .before .number-at2 .ensures, ← c .before .before .before .before .before .before .before .before .before .before .before .pre .order .value, ← c .before .before .before .value .ensures, ← c .before .has-required .ensures, c .if1 .left)
 
 is-supported-requires : tie.Need-is-supported-requires
 is-supported-requires c κs = search needs
@@ -50,23 +38,19 @@ header-from-requires c κs = search needs
 
 returns-2 : tie.Need-returns-2
 unfolding contentsIn required supported headerOf
-returns-2 c = rw (← c .before .before .before .before .before .before .before .before .before .before .before .number-under .ensures, ← c .before .before .before .before .before .before .before .before .before .number-under2 .ensures, ← c .before .before .before .before .before .before .before .value .ensures, ← c .before .before .before .before .before .value2 .ensures, ← c .before .before .before .before .has-required .ensures, c .before .before .before .if1 .taken, ← c .before .before .is-supported .ensures, c .before .if2 .taken, c .header-from .ensures)
+returns-2 c = rw (← c .before .before .before .before .before .before .before .before .before .before .before .before .before .before .pre .size1 .value, ← c .before .before .before .before .before .before .before .before .number-at .ensures, ← c .before .before .before .before .before .before .before .before .before .before .before .before .before .before .pre .size2 .value, ← c .before .before .before .before .before .before .before .number-at2 .ensures, ← c .before .before .before .before .before .before .before .before .before .before .before .before .before .before .pre .order .value, ← c .before .before .before .before .before .before .value .ensures, ← c .before .before .before .before .before .before .before .before .before .before .before .before .before .before .pre .kind .value, ← c .before .before .before .before .before .value2 .ensures, ← c .before .before .before .before .has-required .ensures, c .before .before .before .if1 .taken, ← c .before .before .is-supported .ensures, c .before .if2 .taken, c .header-from .ensures)
 
 returns-3 : tie.Need-returns-3
 unfolding contentsIn required supported
-returns-3 c = rw (← c .before .before .before .before .before .before .before .before .before .before .number-under .ensures, ← c .before .before .before .before .before .before .before .before .number-under2 .ensures, ← c .before .before .before .before .before .before .value .ensures, ← c .before .before .before .before .value2 .ensures, ← c .before .before .before .has-required .ensures, c .before .before .if1 .taken, ← c .before .is-supported .ensures, c .if2 .left)
+returns-3 c = rw (← c .before .before .before .before .before .before .before .before .before .before .before .before .before .pre .size1 .value, ← c .before .before .before .before .before .before .before .number-at .ensures, ← c .before .before .before .before .before .before .before .before .before .before .before .before .before .pre .size2 .value, ← c .before .before .before .before .before .before .number-at2 .ensures, ← c .before .before .before .before .before .before .before .before .before .before .before .before .before .pre .order .value, ← c .before .before .before .before .before .value .ensures, ← c .before .before .before .before .before .before .before .before .before .before .before .before .before .pre .kind .value, ← c .before .before .before .before .value2 .ensures, ← c .before .before .before .has-required .ensures, c .before .before .if1 .taken, ← c .before .is-supported .ensures, c .if2 .left)
 
 pub read-items-spec : {M : Type 1} → statement M
 read-items-spec =
     tie.close
     (tie.spec
-    slice-aggregate-number-under
-    number-under-requires
-    slice-aggregate-number-under-2
-    number-under-requires-2
-    slice-aggregate-value
+    number-at-requires
+    number-at-requires-2
     value-requires
-    slice-aggregate-value-2
     value-requires-2
     has-required-requires
     returns
