@@ -12,7 +12,7 @@ use std::path::Path;
 pub fn expand(output: &mut Output, asked: &Expand) -> Outcome<()> {
     output.make_way_for(&asked.output);
     let (options, format) = (&asked.options, format(asked)?);
-    let found = names::frames(&asked.names, Some(&asked.output))?;
+    let found = names::frames(&asked.names, Some((&asked.output, format.ending())))?;
     let outputs = Outputs::new(&found, &asked.output, format.ending())?;
     found.each(output, &["expanded", "already expanded"], |item| {
         let file = outputs.of(item)?;

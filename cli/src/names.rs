@@ -87,19 +87,31 @@ pub fn holdings(asked: &Names, shard: Shard, is_folder: impl Fn(&Path) -> bool) 
     Ok(found)
 }
 
-/// Frames, by name or below folders; a folder in there that outputs go into is left out.
-pub fn frames(asked: &Names, outputs: Option<&Path>) -> Outcome<Found> {
+/// Frames, by name or below folders. Outputs are known by the folder that they go into and their ending.
+pub fn frames(asked: &Names, outputs: Option<(&Path, &str)>) -> Outcome<Found> {
     let mut found = Found::new(Things::Frames, asked);
     let words = words(asked)?;
     streams::must_come_once(words.iter().chain(&asked.names_from).map(PathBuf::as_path))?;
     found.items.extend(words.into_iter().map(|path| Item { path, below: None }));
     for folder in &asked.below {
-        let inside = outputs.and_then(|outputs| walk::inside(outputs, folder)).filter(|inside| inside != folder);
-        let walked = walk::frames(folder, inside.as_deref())?;
+        let walked = frames_below(folder, outputs)?;
         found.walked.unread.extend(walked.unread);
         found.add(folder, walked.files);
     }
     Ok(found)
+}
+
+/// The files below a folder that may be frames. Outputs of an earlier run, below a folder in there or beside the frames,
+/// are none.
+fn frames_below(folder: &Path, outputs: Option<(&Path, &str)>) -> Outcome<walk::Files> {
+    let Some((into, ending)) = outputs else { return walk::frames(folder, None) };
+    let inside = walk::inside(into, folder);
+    if inside.as_deref() != Some(folder) {
+        return walk::frames(folder, inside.as_deref());
+    }
+    let mut walked = walk::frames(folder, None)?;
+    walked.files.retain(|file| ending.is_empty() || file.extension() != Some(OsStr::new(ending)));
+    Ok(walked)
 }
 
 /// The names as given, and then those of the list.

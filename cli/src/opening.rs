@@ -24,7 +24,7 @@ struct Opened {
 }
 
 pub fn open(output: &mut Output, asked: &Open, wait: Option<Duration>) -> Outcome<()> {
-    let found = names::frames(&asked.names, Some(&asked.output))?;
+    let found = names::frames(&asked.names, Some((&asked.output, "")))?;
     let wait = found.wait(wait);
     let outputs = Outputs::new(&found, &asked.output, "")?;
     found.each(output, &["opened", "already open"], |item| {

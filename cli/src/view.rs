@@ -16,7 +16,7 @@ use std::path::Path;
 pub fn view(output: &mut Output, asked: &View) -> Outcome<()> {
     output.make_way_for(&asked.output);
     must_be_possible(asked)?;
-    let found = names::frames(&asked.names, Some(&asked.output))?;
+    let found = names::frames(&asked.names, Some((&asked.output, "png")))?;
     let outputs = Outputs::new(&found, &asked.output, "png")?;
     found.each(output, &["viewed", "already viewed"], |item| {
         let file = outputs.of(item)?;

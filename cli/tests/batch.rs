@@ -250,6 +250,34 @@ fn many_frames_are_expanded_as_asked() {
 }
 
 #[test]
+fn outputs_beside_their_frames_are_no_frames() {
+    let f = folder();
+    ["frames/a.sfrm", "frames/deep/b.sfrm"].iter().for_each(|name| f.put_below(name, plain_frame()));
+    for (words, ending) in [("expand --as npy", "npy"), ("view", "png"), ("open --form 1", "held")] {
+        let words = format!("{words} --below frames -o frames");
+        assert!(last(&f.done(&words)).starts_with("2 frames: 2 "), "{words}");
+        let again = f.done(&words);
+        assert!(last(&again).starts_with("2 frames: 0 ") && last(&again).contains(", 2 already "), "{again}");
+        ["frames/a", "frames/deep/b"]
+            .iter()
+            .for_each(|name| fs::remove_file(f.join(&format!("{name}.{ending}"))).unwrap());
+    }
+}
+
+#[test]
+fn a_batch_of_keep_dates_goes_on_where_it_was_killed() {
+    let f = folder();
+    (0..20).for_each(|number| f.put_below(&format!("frames/h{number:02}.sfrm"), plain_frame()));
+    f.done("open --below frames --form 1 --room 0 -o archive");
+    let words = "keep --below archive 2031-11-02";
+    killed_in_turn(&f, words, &["pwrite h02.lock", "rename h05.redo", "rename h08.ledger", "unlink h19.redo"]);
+    let again = f.run(words);
+    assert!(again.status == Some(0) && again.out.contains("archive/h00: already kept until 2031-11-02"), "{again:?}");
+    (0..20).for_each(|number| assert_eq!(f.get(&format!("archive/h{number:02}.ledger")).len(), 16, "{number}"));
+    assert!(f.done("verify archive").contains("20 holdings: 20 agree"));
+}
+
+#[test]
 fn many_frames_are_viewed() {
     let f = tier();
     let ran = f.run("view --below frames -o pictures --min 0 --max 100");
