@@ -250,6 +250,23 @@ fn many_frames_are_expanded_as_asked() {
 }
 
 #[test]
+fn every_format_is_written_for_many_as_for_one() {
+    let f = folder();
+    let names: Vec<String> = (0..24).map(|number| format!("{number:02}")).collect();
+    for (name, first) in names.iter().zip(0u8..) {
+        let counts: Vec<u8> = (first..first + 16).collect();
+        f.put_below(&format!("frames/{name}.sfrm"), frame(Header::new(4, 4), &counts));
+    }
+    for format in ["npy", "raw", "pgm", "tif", "edf", "cbf"] {
+        f.done(&format!("expand --below frames --as {format} -o many"));
+        for name in [&names[0], &names[11], &names[23]] {
+            f.done(&format!("expand frames/{name}.sfrm -o {name}.{format}"));
+            assert_eq!(f.get(&format!("{name}.{format}")), f.get(&format!("many/{name}.{format}")), "{format}");
+        }
+    }
+}
+
+#[test]
 fn outputs_beside_their_frames_are_no_frames() {
     let f = folder();
     ["frames/a.sfrm", "frames/deep/b.sfrm"].iter().for_each(|name| f.put_below(name, plain_frame()));
