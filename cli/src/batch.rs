@@ -97,3 +97,26 @@ pub fn word_of(failure: &Failure) -> &'static str {
         Failure::Usage(_) | Failure::InUse { .. } | Failure::Machine { .. } | Failure::Unread => failed,
     }
 }
+
+#[cfg(test)]
+mod tests {
+    use super::*;
+
+    /// How many threads there are for each of two files of these lengths.
+    fn threads(length: u64) -> Vec<usize> {
+        let mut seen = Vec::new();
+        let note = |_: &mut Output, _: &u64, threads| {
+            seen.push(threads);
+            Ok(())
+        };
+        let work = |_: &u64| rayon::current_num_threads();
+        run(&mut Output::new(true), &[1, length], "files", |length| *length, work, note).unwrap();
+        seen
+    }
+
+    #[test]
+    fn a_large_file_keeps_a_batch_to_one_for_each_core() {
+        assert_eq!(threads(SMALL), [crew().unwrap().current_num_threads(); 2]);
+        assert_eq!(threads(SMALL + 1), [rayon::current_num_threads(); 2]);
+    }
+}

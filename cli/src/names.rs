@@ -229,3 +229,22 @@ impl Doubled {
 pub fn plain(path: &Path) -> PathBuf {
     path.components().filter(|part| *part != Component::CurDir).collect()
 }
+
+#[cfg(test)]
+mod tests {
+    use super::*;
+
+    #[test]
+    fn a_list_does_not_wait_without_end() {
+        let (words, second) =
+            (Names { names: vec!["a".into(), "b".into()], ..Names::default() }, Duration::from_secs(1));
+        let folder = Names { below: vec![".".into()], ..Names::default() };
+        let list = Names { names_from: Some("list".into()), ..Names::default() };
+        let wait = |asked: &Names, given| Found::new(Things::Holdings, asked).wait(given);
+        assert_eq!((wait(&words, None), wait(&words, Some(second))), (None, Some(second)));
+        assert_eq!(
+            (wait(&folder, None), wait(&list, None), wait(&list, Some(second))),
+            (Some(WAIT), Some(WAIT), Some(second))
+        );
+    }
+}
