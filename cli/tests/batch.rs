@@ -360,6 +360,8 @@ fn verify_takes_folders_by_either_way() {
         let ran = f.run(words);
         assert_eq!((ran.status, &ran.out, &ran.err), (plain.status, &plain.out, &plain.err), "{words}");
     }
+    let json = values(&f.run("verify --below . --json").out);
+    assert_eq!((json.len(), &json[3]["met"]), (4, &3.into()), "{json:?}");
     let listed = f.run_with("verify --names-from -", b"./a\n./b\n./c\n");
     assert_eq!((listed.status, listed.out, listed.err), (plain.status, plain.out, plain.err));
 }
