@@ -22,7 +22,7 @@ const SENTENCES: [Sentence; 38] = [
     say("a pixel width, the rows, the columns or the baseline is out of range", "Look at header lines 39, 40, 41 and 79."),
     say("LINEAR is not 1 and 0: the counts are scaled", "Scaled frames are not read: look at header line 58."),
     say("there are fewer counts than the header has pixels", "Give as many counts as the header's rows times columns."),
-    say("the bytes end before the image or a table does", "Compare the file's size with its copy: it is cut short."),
+    say("the file ends within the image or a table", "Compare the file's size with its copy: it is cut short."),
     say("the padding after a table is not zero", "The tables are damaged, or NOVERFL (line 20) does not fit them: take another copy of the frame."),
     say("an overflow entry is malformed, belongs to no marked pixel or is a second one", "The overflow table is damaged: take another copy of the frame."),
     say("the tables have more or fewer entries than the image calls for", "Compare NOVERFL (line 20) with the image: take another copy of the frame."),
@@ -46,7 +46,7 @@ const SENTENCES: [Sentence; 38] = [
     say("the header's start or its length is wrong", "Check that this is a d*TREK image: it starts with `{`, a newline, `HEADER_BYTES=`, five characters with a multiple of 512 up to 99840, and a semicolon. A transfer as text may have changed its line ends."),
     say("the header's syntax is broken, its end or padding is wrong, or a keyword stands twice", "Compare the header with another image of the series: items are `KEYWORD=value;`, each followed by a newline, and after the closing brace there are a newline, a form feed, a newline and then only spaces."),
     say("a required keyword is missing or has another content", "Look at DIM (2), SIZE1 and SIZE2 (1 to 4096, or both 0), BYTE_ORDER (big_endian or little_endian) and Data_type."),
-    say("the pixels are of a type that is not read, or compressed", "Only unsigned char, unsigned short int and unsigned long int without compression are read: look at Data_type and COMPRESSION."),
+    say("the pixels are of a type that is not read, or compressed", "Read are unsigned pixels of one, two and four bytes (char, short int, long int) without compression: look at Data_type and COMPRESSION."),
     say("the array for the tenths is too short", "Lend as many places as the frame has pixels."),
     say("a mar header has no such entry", "Entries are numbered from 1 to 25."),
     say("the header buffer is too short", "Lend 32,768 bytes for the header."),
@@ -58,7 +58,7 @@ const MAR_TRUNCATED: Sentence = say(
     "Compare the file's size with its copy: it is cut short, or it is no mar image.",
 );
 const MAR_DATA_TRUNCATED: Sentence = say(
-    "the bytes end before the image or the high-intensity records do",
+    "the file ends within the image or the high-intensity records",
     "Compare the file's size with its copy: it is cut short, or it is a compressed image (.pck), which is not read.",
 );
 const MAR_BAD_PAIR: Sentence = say(
@@ -70,7 +70,7 @@ const MAR_BAD_PAIR: Sentence = say(
 const DTREK_TRUNCATED: Sentence =
     say("the bytes end within the header", "Compare the file's size with its copy: it is cut short.");
 const DTREK_DATA_TRUNCATED: Sentence =
-    say("the bytes end before the image does", "Compare the file's size with its copy: it is cut short.");
+    say("the file ends within the image", "Compare the file's size with its copy: it is cut short.");
 
 const UNKNOWN: Sentence =
     say("the library gives a number that this command does not know", "Build command and library of the same state.");

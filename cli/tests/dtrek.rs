@@ -113,7 +113,7 @@ fn each_refusal_of_a_dtrek_image_has_its_sentence() {
     refused(&f, &changed("SIZE1=3", "SIZE1=4097"), 34, "(DIM=2, SIZE1=4097, SIZE2=2,");
     refused(&f, &changed("unsigned short", "short"), 35, "(Data_type=short int, no COMPRESSION)");
     refused(&f, &changed("DIM=", "COMPRESSION=None;\nDIM="), 35, "(Data_type=unsigned short int, COMPRESSION=None)");
-    refused(&f, &whole[..523], 11, "the bytes end before the image does. Compare");
+    refused(&f, &whole[..523], 11, "the file ends within the image. Compare");
     let ran = f.run("expand bad.img -o a.raw --json");
     assert!(ran.status == Some(4) && ran.out.contains(r#""refusal":11,"#) && !f.has("a.raw"), "{ran:?}");
 }

@@ -75,7 +75,7 @@ fn each_refusal_of_a_frame_has_its_sentence() {
         assert!(said.contains(part), "{said}");
     };
     let whole = tables_frame();
-    case(&whole[..whole.len() - 1], 11, "the bytes end before the image or a table does");
+    case(&whole[..whole.len() - 1], 11, "the file ends within the image or a table");
     let mut padding = whole.clone();
     *padding.last_mut().unwrap() = 1;
     case(&padding, 12, "the padding after a table is not zero");
