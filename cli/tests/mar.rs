@@ -105,7 +105,7 @@ fn each_refusal_of_a_mar_image_has_its_sentence() {
     };
     case(&whole[..2399], 1, "the bytes end within the header record");
     let mut header = whole[..2400].to_vec();
-    case(&header, 11, "before the image or the high-intensity records do");
+    case(&header, 11, "the file ends within the image or the high-intensity records");
     header[23] = 2;
     case(&header, 29, "the sizes in the mar header do not fit together");
     case(
