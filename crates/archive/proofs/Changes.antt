@@ -1,11 +1,11 @@
--- Correction and withdrawal, by what replacing a pixel answers and leaves.
+-- Correction, withdrawal and amending, by what replacing a pixel answers and leaves.
 -- Assumes nothing.
 use mathlib.Core.Path.{_≡_, refl, sym, ap, _∙_}
 use mathlib.Core.Bool.{Bool, true, false, not}
-use mathlib.Core.List.{List}
-use Prim.Native.Nat.{ℕ, _+_, _*_, _≤_}
+use mathlib.Core.List.{List, [], _∷_}
+use Prim.Native.Nat.{ℕ, _+_, _*_, _/_, _≤_, _<_}
 use native.Mathlib.Nat.{mul-le-mul-left, mul-le-mul-right}
-use borrow.Author.Tests.{le-leb, leb-false}
+use borrow.Author.Tests.{le-leb, lt-leb, leb-true, leb-false}
 use native.Mathlib.Omega.{arith}
 use lib.ListN.{length, getD}
 use lib.Dec.{leb, ltb}
@@ -33,47 +33,47 @@ use Rattle.replacement.specs.declared.Expected.{Expected}
 use Rattle.replacement.specs.declared.Expected.the-variants.{Any, Exactly}
 use Rattle.replacement.specs.declared.Replaced.the-variants as D
 use Rattle.replacement.specs.Replace.{meets, changedFrame, replacedAs, replaceAnswer, replaceBytes}
-use Rattle.archive.specs.Calls.{Outcome, outcome, correctionLine, withdrawalLine, refuse, heldAs, correctOutcome, withdrawOutcome}
+use Rattle.archive.specs.Calls.{Outcome, outcome, correctionLine, withdrawalLine, withLines, refuse, heldAs, correctOutcome, withdrawOutcome, amendOutcome}
 use Rattle.header.proofs.Accepted.{accepted-bounds}
 use Rattle.readback.proofs.HeldOpened.{opened, count-of}
-use Rattle.archive.specs.Changes.{within32, heldRefusal, refusalBy, fullRefusal, replacedOutcome, changing, keepWithdrawn}
+use Rattle.archive.specs.Changes.{within32, heldRefusal, refusalBy, fullRefusal, replacedOutcome, changing, amending, keepWithdrawn}
 
 module _ (held ledger : List ℕ) (lines : ℕ) where
-  frame-by : (t : Bool) (f : List ℕ) (old : ℕ) (line : ℕ → Line)
-      → if_then_else_ t (refuse held ledger lines R.OutputShort) (outcome (L.Accepted (lines + 1)) (heldBytes (length held) f) (withLine ledger lines (line old)))
-      ≡ replacedOutcome ledger lines line (if_then_else_ t held (heldBytes (length held) f)) (if_then_else_ t (D.Refused R.OutputShort) (D.Done old))
-  frame-by true f old line = refl
-  frame-by false f old line = refl
+  frame-by : (t : Bool) (f : List ℕ) (old : ℕ) (added : ℕ → List Line)
+      → if_then_else_ t (refuse held ledger lines R.OutputShort) (outcome (L.Accepted (lines + length (added old))) (heldBytes (length held) f) (withLines ledger lines (added old)))
+      ≡ replacedOutcome ledger lines added (if_then_else_ t held (heldBytes (length held) f)) (if_then_else_ t (D.Refused R.OutputShort) (D.Done old))
+  frame-by true f old added = refl
+  frame-by false f old added = refl
 
-  made-by : (m : Made) (old : ℕ) (line : ℕ → Line) → heldAs held ledger lines (line old) m ≡ replacedOutcome ledger lines line (outputOf held m) (replacedAs (length held) old m)
-  made-by (frame f) old line = frame-by (ltb (length held) (length f)) f old line
-  made-by (refused r) old line = refl
+  made-by : (m : Made) (old : ℕ) (added : ℕ → List Line) → heldAs held ledger lines (added old) m ≡ replacedOutcome ledger lines added (outputOf held m) (replacedAs (length held) old m)
+  made-by (frame f) old added = frame-by (ltb (length held) (length f)) f old added
+  made-by (refused r) old added = refl
 
-  tests-by : (a b c : Bool) (m : Made) (old : ℕ) (line : ℕ → Line)
+  tests-by : (a b c : Bool) (m : Made) (old : ℕ) (added : ℕ → List Line)
       → if_then_else_ (not a) (refuse held ledger lines R.HeldNotCanonical)
-      (if_then_else_ b (refuse held ledger lines R.NoSuchPixel) (if_then_else_ (not c) (refuse held ledger lines R.PixelDiffers) (heldAs held ledger lines (line old) m)))
-      ≡ replacedOutcome ledger lines line (if_then_else_ (not a) held (if_then_else_ b held (if_then_else_ (not c) held (outputOf held m))))
+      (if_then_else_ b (refuse held ledger lines R.NoSuchPixel) (if_then_else_ (not c) (refuse held ledger lines R.PixelDiffers) (heldAs held ledger lines (added old) m)))
+      ≡ replacedOutcome ledger lines added (if_then_else_ (not a) held (if_then_else_ b held (if_then_else_ (not c) held (outputOf held m))))
       (if_then_else_ (not a) (D.Refused R.HeldNotCanonical) (if_then_else_ b (D.Refused R.NoSuchPixel) (if_then_else_ (not c) (D.Refused R.PixelDiffers) (replacedAs (length held) old m))))
-  tests-by false b c m old line = refl
-  tests-by true true c m old line = refl
-  tests-by true false false m old line = refl
-  tests-by true false true m old line = made-by m old line
+  tests-by false b c m old added = refl
+  tests-by true true c m old added = refl
+  tests-by true false false m old added = refl
+  tests-by true false true m old added = made-by m old added
 
   -- where the ledger has room
-  pub changing-by : ledgerFull ledger lines ≡ false → (expected : Expected) (pixel count : ℕ) (line : ℕ → Line)
-      → changing held ledger lines expected pixel count line ≡ replacedOutcome ledger lines line (replaceBytes held pixel expected count) (replaceAnswer held pixel expected count)
+  pub changing-by : (full : Bool) → full ≡ false → (expected : Expected) (pixel count : ℕ) (added : ℕ → List Line)
+      → changing held ledger lines full expected pixel count added ≡ replacedOutcome ledger lines added (replaceBytes held pixel expected count) (replaceAnswer held pixel expected count)
   unfolding changing replaceBytes replaceAnswer
-  changing-by room expected pixel count line = rw room (tests-by (isHeld held) (leb (heldCount held) pixel) (meets expected (getD (heldPixels held) pixel 0)) (changedFrame held pixel count) (getD (heldPixels held) pixel 0) line)
+  changing-by full room expected pixel count added = rw room (tests-by (isHeld held) (leb (heldCount held) pixel) (meets expected (getD (heldPixels held) pixel 0)) (changedFrame held pixel count) (getD (heldPixels held) pixel 0) added)
 
-  pub changing-refused : ledgerFull ledger lines ≡ false → (expected : Expected) (pixel count : ℕ) (line : ℕ → Line) (r : Refusal) → replaceAnswer held pixel expected count ≡ D.Refused r
-      → changing held ledger lines expected pixel count line ≡ outcome (L.Refused r) (replaceBytes held pixel expected count) ledger
-  changing-refused room expected pixel count line r e =
-      changing-by room expected pixel count line ∙ ap (replacedOutcome ledger lines line (replaceBytes held pixel expected count)) e
+  pub changing-refused : (full : Bool) → full ≡ false → (expected : Expected) (pixel count : ℕ) (added : ℕ → List Line) (r : Refusal) → replaceAnswer held pixel expected count ≡ D.Refused r
+      → changing held ledger lines full expected pixel count added ≡ outcome (L.Refused r) (replaceBytes held pixel expected count) ledger
+  changing-refused full room expected pixel count added r e =
+      changing-by full room expected pixel count added ∙ ap (replacedOutcome ledger lines added (replaceBytes held pixel expected count)) e
 
-  pub changing-done : ledgerFull ledger lines ≡ false → (expected : Expected) (pixel count : ℕ) (line : ℕ → Line) (old : ℕ) → replaceAnswer held pixel expected count ≡ D.Done old
-      → changing held ledger lines expected pixel count line ≡ outcome (L.Accepted (lines + 1)) (replaceBytes held pixel expected count) (withLine ledger lines (line old))
-  changing-done room expected pixel count line old e =
-      changing-by room expected pixel count line ∙ ap (replacedOutcome ledger lines line (replaceBytes held pixel expected count)) e
+  pub changing-done : (full : Bool) → full ≡ false → (expected : Expected) (pixel count : ℕ) (added : ℕ → List Line) (old : ℕ) → replaceAnswer held pixel expected count ≡ D.Done old
+      → changing held ledger lines full expected pixel count added ≡ outcome (L.Accepted (lines + length (added old))) (replaceBytes held pixel expected count) (withLines ledger lines (added old))
+  changing-done full room expected pixel count added old e =
+      changing-by full room expected pixel count added ∙ ap (replacedOutcome ledger lines added (replaceBytes held pixel expected count)) e
 
   full-tests : (a b c : Bool) (x : Outcome)
       → if_then_else_ (not a) (refuse held ledger lines R.HeldNotCanonical)
@@ -93,11 +93,11 @@ module _ (held ledger : List ℕ) (lines : ℕ) where
   full-located expected pixel true false = refl
 
   -- where it has none
-  pub changing-full : ledgerFull ledger lines ≡ true → (expected : Expected) (pixel count : ℕ) (line : ℕ → Line)
-      → changing held ledger lines expected pixel count line ≡ refuse held ledger lines (fullRefusal expected (located held pixel))
+  pub changing-full : (full : Bool) → full ≡ true → (expected : Expected) (pixel count : ℕ) (added : ℕ → List Line)
+      → changing held ledger lines full expected pixel count added ≡ refuse held ledger lines (fullRefusal expected (located held pixel))
   unfolding changing located
-  changing-full full expected pixel count line =
-      rw full (full-tests (isHeld held) (leb (heldCount held) pixel) (meets expected (getD (heldPixels held) pixel 0)) (changing held ledger lines expected pixel count line)
+  changing-full full none expected pixel count added =
+      rw none (full-tests (isHeld held) (leb (heldCount held) pixel) (meets expected (getD (heldPixels held) pixel 0)) (changing held ledger lines full expected pixel count added)
       ∙ ap (refuse held ledger lines) (sym (full-located expected pixel (isHeld held) (leb (heldCount held) pixel))))
 
   -- correction
@@ -110,7 +110,7 @@ module _ (held ledger : List ℕ) (lines : ℕ) where
       go false = refl
 
   pub correct-is : ledgerMalformed ledger lines ≡ false → (pixel count : ℕ)
-      → correctOutcome held ledger lines pixel count ≡ changing held ledger lines Any pixel count (λ (old : ℕ). correctionLine pixel old count)
+      → correctOutcome held ledger lines pixel count ≡ changing held ledger lines (ledgerFull ledger lines) Any pixel count (λ (old : ℕ). correctionLine pixel old count ∷ [])
   unfolding correctOutcome changing
   correct-is h pixel count = rw h
 
@@ -130,7 +130,7 @@ module _ (held ledger : List ℕ) (lines : ℕ) where
 
     module _ (index : ℕ) (l : Line) (e : lastStanding anyLine 0 (linesOf lines ledger) ≡ At index l) where
       pub withdraw-correction : l .kind ≡ Correction
-          → withdrawOutcome held ledger lines ≡ changing held ledger lines (Exactly (l .new)) (l .pixel) (l .old) (λ (old : ℕ). withdrawalLine)
+          → withdrawOutcome held ledger lines ≡ changing held ledger lines (ledgerFull ledger lines) (Exactly (l .new)) (l .pixel) (l .old) (λ (old : ℕ). withdrawalLine ∷ [])
       unfolding withdrawOutcome changing
       withdraw-correction k = rw (h, e, k)
 
@@ -141,6 +141,30 @@ module _ (held ledger : List ℕ) (lines : ℕ) where
       pub withdraw-other : l .kind ≡ Withdrawal → withdrawOutcome held ledger lines ≡ refuse held ledger lines (heldRefusal held R.NothingStands)
       unfolding withdrawOutcome heldRefusal
       withdraw-other k = rw (h, e, k) (either (isHeld held) R.HeldNotCanonical R.NothingStands)
+
+  -- amending
+  module _ (count : ℕ) where
+    pub amend-malformed : ledgerMalformed ledger lines ≡ true → amendOutcome held ledger lines count ≡ refuse held ledger lines (heldRefusal held R.LedgerMalformed)
+    unfolding amendOutcome heldRefusal
+    amend-malformed h = rw h (either (isHeld held) R.HeldNotCanonical R.LedgerMalformed)
+
+    module _ (h : ledgerMalformed ledger lines ≡ false) where
+      pub amend-nothing : lastStanding anyLine 0 (linesOf lines ledger) ≡ Nothing → amendOutcome held ledger lines count ≡ refuse held ledger lines (heldRefusal held R.NothingStands)
+      unfolding amendOutcome heldRefusal
+      amend-nothing e = rw (h, e) (either (isHeld held) R.HeldNotCanonical R.NothingStands)
+
+      module _ (index : ℕ) (l : Line) (e : lastStanding anyLine 0 (linesOf lines ledger) ≡ At index l) where
+        pub amend-correction : l .kind ≡ Correction → amendOutcome held ledger lines count ≡ amending held ledger lines count l
+        unfolding amendOutcome changing
+        amend-correction k = rw (h, e, k)
+
+        pub amend-keep : l .kind ≡ Keep → amendOutcome held ledger lines count ≡ refuse held ledger lines (heldRefusal held R.LastIsKeep)
+        unfolding amendOutcome heldRefusal
+        amend-keep k = rw (h, e, k) (either (isHeld held) R.HeldNotCanonical R.LastIsKeep)
+
+        pub amend-other : l .kind ≡ Withdrawal → amendOutcome held ledger lines count ≡ refuse held ledger lines (heldRefusal held R.NothingStands)
+        unfolding amendOutcome heldRefusal
+        amend-other k = rw (h, e, k) (either (isHeld held) R.HeldNotCanonical R.NothingStands)
 
 -- the parts of an outcome
 pub answer-of : {a : LedgerAnswer} {h l : List ℕ} {o : Outcome} → o ≡ outcome a h l → a ≡ o .answer
@@ -160,6 +184,23 @@ appended-answer t lines h = rw h
 pub appended-bytes : (t : List ℕ) (lines : ℕ) (l : Line) → ledgerFull t lines ≡ false → appendBytes t lines l ≡ withLine t lines l
 unfolding appendBytes
 appended-bytes t lines l h = rw h
+
+-- room for two lines
+pub first-free : (t : List ℕ) (lines : ℕ) → ledgerFull t (lines + 1) ≡ false → ledgerFull t lines ≡ false
+first-free t lines e = let h = leb-false (length t / 16) (lines + 1) e in lt-leb (length t / 16) lines (omega arith)
+
+pub then-full : (t : List ℕ) (lines : ℕ) → ledgerFull t lines ≡ true → true ≡ ledgerFull t (lines + 1)
+then-full t lines e = let h = leb-true (length t / 16) lines e in sym (le-leb (length t / 16) (lines + 1) (omega arith))
+
+-- two lines appended where there is room for both
+pub two-appended : (t u v : List ℕ) (lines : ℕ) (a b x y : Line) (r : LedgerAnswer) → ledgerFull t (lines + 1) ≡ false → length u ≡ length t
+    → u ≡ appendBytes t lines x → x ≡ a → v ≡ appendBytes u (lines + 1) y → y ≡ b → r ≡ appendAnswer u (lines + 1)
+    → (r ≡ L.Accepted (lines + 2)) × (v ≡ withLines t lines (a ∷ b ∷ []))
+two-appended t u v lines a b x y r free size first xa second yb answer =
+    let e : lines + 1 + 1 ≡ lines + 2 = omega arith in
+    let one : u ≡ withLine t lines a = first ∙ appended-bytes t lines x (first-free t lines free) ∙ ap (withLine t lines) xa in
+    let room : ledgerFull u (lines + 1) ≡ false = rw size free in
+    (answer ∙ appended-answer u (lines + 1) room ∙ ap L.Accepted e, second ∙ appended-bytes u (lines + 1) y room ∙ rw (yb, one))
 
 -- a keep line taken back where the frame is held
 keep-tests : (held ledger : List ℕ) (lines : ℕ) (a : Bool)

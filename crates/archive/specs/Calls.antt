@@ -1,7 +1,7 @@
--- Document 01, "The ledger" and "Numbers given back": correction and withdrawal, over the held buffer and the ledger.
+-- Document 01, "The ledger" and "Numbers given back", and document 02, A6: correction, withdrawal and amending, over the held buffer and the ledger.
 use Prim.Native.Nat.{ℕ, _+_}
 use mathlib.Core.Bool.{not}
-use mathlib.Core.List.{List}
+use mathlib.Core.List.{List, [], _∷_}
 use lib.ListN.{length, getD}
 use lib.Dec.{eqb, leb, ltb}
 use Rattle.lists.specs.Choose.{if_then_else_}
@@ -42,17 +42,22 @@ correctionLine pixel old new = record { kind = Correction; date = noDate; pixel 
 abbrev pub withdrawalLine : Line
 withdrawalLine = record { kind = Withdrawal; date = noDate; pixel = 0; old = 0; new = 0 }
 
+-- the bytes with lines written one after the other after the first `lines` lines
+abbrev pub withLines : List ℕ → ℕ → List Line → List ℕ
+withLines t lines [] = t
+withLines t lines (l ∷ ls) = withLines (withLine t lines l) (lines + 1) ls
+
 module _ (held ledger : List ℕ) (lines : ℕ) where
   -- a refusal changes no byte
   abbrev pub refuse : Refusal → Outcome
   refuse r = outcome (L.Refused r) held ledger
 
-  -- the held buffer becomes a frame, and a line is appended: 17, 18
-  abbrev pub heldAs : Line → Made → Outcome
-  heldAs line (frame f) =
+  -- the held buffer becomes a frame, and lines are appended: 17, 18
+  abbrev pub heldAs : List Line → Made → Outcome
+  heldAs added (frame f) =
       if ltb (length held) (length f) then refuse R.OutputShort else
-      outcome (L.Accepted (lines + 1)) (heldBytes (length held) f) (withLine ledger lines line)
-  heldAs line (refused r) = refuse r
+      outcome (L.Accepted (lines + length added)) (heldBytes (length held) f) (withLines ledger lines added)
+  heldAs added (refused r) = refuse r
 
   -- the frame held, with another count in one pixel
   abbrev pub changed : ℕ → ℕ → Made
@@ -65,7 +70,7 @@ module _ (held ledger : List ℕ) (lines : ℕ) where
       if ledgerMalformed ledger lines then refuse R.LedgerMalformed else
       if leb (heldCount held) pixel then refuse R.NoSuchPixel else
       if ledgerFull ledger lines then refuse R.LedgerFull else
-      heldAs (correctionLine pixel (getD (heldPixels held) pixel 0) count) (changed pixel count)
+      heldAs (correctionLine pixel (getD (heldPixels held) pixel 0) count ∷ []) (changed pixel count)
 
   -- a correction is taken back: 24, 23, 21, 17, 18
   abbrev pub correctionBack : Line → Outcome
@@ -73,7 +78,7 @@ module _ (held ledger : List ℕ) (lines : ℕ) where
       if leb (heldCount held) (l .pixel) then refuse R.NoSuchPixel else
       if not (eqb (getD (heldPixels held) (l .pixel) 0) (l .new)) then refuse R.PixelDiffers else
       if ledgerFull ledger lines then refuse R.LedgerFull else
-      heldAs withdrawalLine (changed (l .pixel) (l .old))
+      heldAs (withdrawalLine ∷ []) (changed (l .pixel) (l .old))
 
   -- a keep line is taken back: the held buffer stays
   abbrev pub keepBack : Outcome
@@ -97,3 +102,29 @@ module _ (held ledger : List ℕ) (lines : ℕ) where
       if not (isHeld held) then refuse R.HeldNotCanonical else
       if ledgerMalformed ledger lines then refuse R.LedgerMalformed else
       lastBack (lastStanding anyLine 0 (linesOf lines ledger))
+
+  -- the line taken back and its pixel corrected anew, the old count being that before the line; 21 where fewer than two lines are free, and only the
+  -- last frame is judged: 24, 23, 21, 17, 18
+  abbrev pub correctionAmended : ℕ → Line → Outcome
+  correctionAmended count l =
+      if leb (heldCount held) (l .pixel) then refuse R.NoSuchPixel else
+      if not (eqb (getD (heldPixels held) (l .pixel) 0) (l .new)) then refuse R.PixelDiffers else
+      if ledgerFull ledger (lines + 1) then refuse R.LedgerFull else
+      heldAs (withdrawalLine ∷ correctionLine (l .pixel) (l .old) count ∷ []) (changed (l .pixel) count)
+
+  -- 31: a keep line
+  abbrev pub lineAmended : ℕ → Kind → Line → Outcome
+  lineAmended count Correction l = correctionAmended count l
+  lineAmended count Keep l = refuse R.LastIsKeep
+  lineAmended count Withdrawal l = refuse R.NothingStands
+
+  abbrev pub lastAmended : ℕ → Found → Outcome
+  lastAmended count Nothing = refuse R.NothingStands
+  lastAmended count (At index l) = lineAmended count (l .kind) l
+
+  -- amending: 19, 20, then by the last standing line
+  unfoldable pub amendOutcome : ℕ → Outcome
+  amendOutcome count =
+      if not (isHeld held) then refuse R.HeldNotCanonical else
+      if ledgerMalformed ledger lines then refuse R.LedgerMalformed else
+      lastAmended count (lastStanding anyLine 0 (linesOf lines ledger))

@@ -1,4 +1,4 @@
-// The held frame and its ledger: opening, correction and withdrawal.
+// The held frame and its ledger: opening, correction, withdrawal and amending.
 use calendar::Date;
 use canonical::Located;
 use ledger::Found;
@@ -12,14 +12,16 @@ use replacement::Expected;
 use replacement::Replaced;
 use writer::AskedForm;
 use writer::WriteAnswer;
+ghost use Prim.Native.Nat.{_+_};
 ghost use mathlib.Core.Path.{_≡_};
+ghost use mathlib.Core.List.{[], _∷_};
 ghost use lib.ListN.{length};
 ghost use Rattle.ledger.specs.Ledger.{ledgerFull};
 ghost use Rattle.canonical.specs.Located.{located};
 ghost use Rattle.replacement.specs.declared.Expected.the-variants.{Exactly};
 ghost use Rattle.replacement.specs.Replace.{meets, replaceAnswer, replaceBytes};
-ghost use Rattle.archive.specs.Calls.{correctionLine, withdrawalLine, correctOutcome, withdrawOutcome};
-ghost use Rattle.archive.specs.Changes.{heldRefusal, within32, fullRefusal, replaceRefusal, changing, keepWithdrawn};
+ghost use Rattle.archive.specs.Calls.{correctionLine, withdrawalLine, correctOutcome, withdrawOutcome, amendOutcome};
+ghost use Rattle.archive.specs.Changes.{heldRefusal, within32, fullRefusal, replaceRefusal, changing, amending, keepWithdrawn};
 ghost use Rattle.archive.specs.Open.{readRefusal, writeRefusal, openAnswer, openPixels, openHeld};
 
 // The frame read and the length of the frame held; or why there is none, with the frame read where only the writing is refused.
@@ -229,9 +231,9 @@ pub fn correct(
 
 // Takes the last standing line back, which is a correction.
 fn withdraw_correction(held: &mut [u8], ledger: &mut [u8], lines: u64, line: Line) -> LedgerAnswer
-    ensures { λ r. ⌜ r ≡ changing (now (held .entry)) (now (ledger .entry)) lines (Exactly (line .new)) (line .pixel) (line .old) (λ old. withdrawalLine) .answer ⌝ }
-    ensures { λ _. ⌜ now (held .exit) ≡ changing (now (held .entry)) (now (ledger .entry)) lines (Exactly (line .new)) (line .pixel) (line .old) (λ old. withdrawalLine) .held ⌝ }
-    ensures { λ _. ⌜ now (ledger .exit) ≡ changing (now (held .entry)) (now (ledger .entry)) lines (Exactly (line .new)) (line .pixel) (line .old) (λ old. withdrawalLine) .ledger ⌝ }
+    ensures { λ r. ⌜ r ≡ changing (now (held .entry)) (now (ledger .entry)) lines (ledgerFull (now (ledger .entry)) lines) (Exactly (line .new)) (line .pixel) (line .old) (λ old. withdrawalLine ∷ []) .answer ⌝ }
+    ensures { λ _. ⌜ now (held .exit) ≡ changing (now (held .entry)) (now (ledger .entry)) lines (ledgerFull (now (ledger .entry)) lines) (Exactly (line .new)) (line .pixel) (line .old) (λ old. withdrawalLine ∷ []) .held ⌝ }
+    ensures { λ _. ⌜ now (ledger .exit) ≡ changing (now (held .entry)) (now (ledger .entry)) lines (ledgerFull (now (ledger .entry)) lines) (Exactly (line .new)) (line .pixel) (line .old) (λ old. withdrawalLine ∷ []) .ledger ⌝ }
 {
     if is_full(ledger, lines) {
         return LedgerAnswer::Refused(full_refusal(held, line.pixel, Expected::Exactly(line.new)));
@@ -272,6 +274,64 @@ pub fn withdraw(held: &mut [u8], ledger: &mut [u8], lines: u64) -> LedgerAnswer
     match kind {
         Kind::Correction => withdraw_correction(held, ledger, lines, line),
         Kind::Keep => withdraw_keep(held, ledger, lines),
+        Kind::Withdrawal => LedgerAnswer::Refused(held_refusal(held, Refusal::NothingStands)),
+    }
+}
+
+// The ledger's bytes hold fewer than two further lines.
+fn lacks_two(ledger: &[u8], lines: u64) -> bool
+    ensures { λ r. ⌜ r ≡ ledgerFull (now (ledger .entry)) (lines + 1) ⌝ }
+{
+    if is_full(ledger, lines) {
+        return true;
+    }
+    is_full(ledger, lines + 1)
+}
+
+// Takes the last standing line back, which is a correction, and corrects its pixel anew.
+fn amend_correction(
+    held: &mut [u8],
+    ledger: &mut [u8],
+    lines: u64,
+    line: Line,
+    count: u32,
+) -> LedgerAnswer
+    ensures { λ r. ⌜ r ≡ amending (now (held .entry)) (now (ledger .entry)) lines count line .answer ⌝ }
+    ensures { λ _. ⌜ now (held .exit) ≡ amending (now (held .entry)) (now (ledger .entry)) lines count line .held ⌝ }
+    ensures { λ _. ⌜ now (ledger .exit) ≡ amending (now (held .entry)) (now (ledger .entry)) lines count line .ledger ⌝ }
+{
+    if lacks_two(ledger, lines) {
+        return LedgerAnswer::Refused(full_refusal(held, line.pixel, Expected::Exactly(line.new)));
+    }
+    let replaced = replacement::replace(held, line.pixel, Expected::Exactly(line.new), count);
+    let Replaced::Done { old: _ } = replaced else {
+        return LedgerAnswer::Refused(replace_refusal(replaced));
+    };
+    ledger::append(ledger, lines, withdrawal_line());
+    ledger::append(
+        ledger,
+        lines + 1,
+        correction_line(line.pixel, line.old, count),
+    )
+}
+
+// Takes the last standing line back, which must be a correction, and corrects its pixel to another count.
+pub fn amend(held: &mut [u8], ledger: &mut [u8], lines: u64, count: u32) -> LedgerAnswer
+    ensures { λ r. ⌜ r ≡ amendOutcome (now (held .entry)) (now (ledger .entry)) lines count .answer ⌝ }
+    ensures { λ _. ⌜ now (held .exit) ≡ amendOutcome (now (held .entry)) (now (ledger .entry)) lines count .held ⌝ }
+    ensures { λ _. ⌜ now (ledger .exit) ≡ amendOutcome (now (held .entry)) (now (ledger .entry)) lines count .ledger ⌝ }
+{
+    let SurveyAnswer::Surveyed(summary) = ledger::survey(ledger, lines) else {
+        return LedgerAnswer::Refused(held_refusal(held, Refusal::LedgerMalformed));
+    };
+    let last = summary.last;
+    let Found::At { index: _, line } = last else {
+        return LedgerAnswer::Refused(held_refusal(held, Refusal::NothingStands));
+    };
+    let kind = line.kind;
+    match kind {
+        Kind::Correction => amend_correction(held, ledger, lines, line, count),
+        Kind::Keep => LedgerAnswer::Refused(held_refusal(held, Refusal::LastIsKeep)),
         Kind::Withdrawal => LedgerAnswer::Refused(held_refusal(held, Refusal::NothingStands)),
     }
 }

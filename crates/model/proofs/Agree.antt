@@ -5,9 +5,9 @@ use mathlib.Core.Bool.{Bool, true, false, not}
 use mathlib.Core.List.{List, [], _∷_, _++_, append-assoc, append-nil}
 use Prim.Native.Nat.{ℕ, suc, _+_, _/_, _^_, _≤_, _<_}
 use native.Mathlib.Omega.{arith}
-use lib.ListN.{length, getD, set, length-set}
+use lib.ListN.{length, getD, set, length-append, length-set}
 use lib.Seq.{getD-set-same, set-set, set-getD}
-use lib.Dec.{leb, ltb}
+use lib.Dec.{eqb, leb, ltb}
 use borrow.Author.Tests.{eq-eqb, ne-eqb, leb-false, lt-leb, le-ltb, ltb-false, not-false}
 use Rattle.lists.specs.Choose.{if_then_else_}
 use Rattle.refusal.specs.declared.Refusal.{Refusal}
@@ -32,8 +32,8 @@ use Rattle.ledger.proofs.StandingLaws.{stack, stack-more}
 use Rattle.ledger.proofs.Appending.{foundLines, firstWhere, last-is-top}
 use Rattle.readback.specs.Held.{heldCount, heldPixels, isHeld}
 use Rattle.archive.specs.Calls as C
-use Rattle.archive.specs.Calls.{outcome, correctionLine, withdrawalLine, heldAs, changed, correctOutcome, correctionBack, lineBack, lastBack, withdrawOutcome}
-use Rattle.model.specs.Model.{Call, correct, keep, withdraw, mayPurge, Answer, accepted, refused, Reply, Step, Ran, run, Entry, corrected, kept, Model, Opening, pixelsWith, refuse, accept, correctedBy, askedOf, isFull, written, withdrawnFrom, modelStep, lineFor, addedBy, linesAdded}
+use Rattle.archive.specs.Calls.{Outcome, outcome, correctionLine, withdrawalLine, withLines, heldAs, changed, correctOutcome, correctionBack, lineBack, lastBack, withdrawOutcome, correctionAmended, lineAmended, lastAmended, amendOutcome}
+use Rattle.model.specs.Model.{Call, correct, keep, withdraw, amend, mayPurge, Answer, accepted, refused, Reply, Step, Ran, run, Entry, corrected, kept, Model, Opening, pixelsWith, refuse, accept, correctedBy, askedOf, isFull, written, withdrawnFrom, amendedFrom, modelStep, linesFor, addedBy, linesAdded}
 use Rattle.model.specs.Run.{State, stateOf, purged, after, afterOutcome, step, Counted, AllCounted}
 use Rattle.model.proofs.Held.{Pixels, pixels-set, Fits, Given, held-count, held-pixels, held-length, is-held, changed-is}
 use Rattle.model.proofs.Appending.{ledgerWith, one-more, ledger-more, Holds, holds-more}
@@ -126,7 +126,7 @@ correct-outcome : (h u : List ℕ) (n p k : ℕ) → correctOutcome h u n p k
     if_then_else_ (ledgerMalformed u n) (C.refuse h u n R.LedgerMalformed) (
     if_then_else_ (leb (heldCount h) p) (C.refuse h u n R.NoSuchPixel) (
     if_then_else_ (leb (length u / 16) n) (C.refuse h u n R.LedgerFull) (
-    heldAs h u n (correctionLine p (getD (heldPixels h) p 0) k) (changed h u n p k)))))
+    heldAs h u n (correctionLine p (getD (heldPixels h) p 0) k ∷ []) (changed h u n p k)))))
 unfolding correctOutcome
 correct-outcome h u n p k = refl
 
@@ -137,6 +137,13 @@ withdraw-outcome : (h u : List ℕ) (n : ℕ) → withdrawOutcome h u n
 unfolding withdrawOutcome
 withdraw-outcome h u n = refl
 
+amend-outcome : (h u : List ℕ) (n k : ℕ) → amendOutcome h u n k
+    ≡ if_then_else_ (not (isHeld h)) (C.refuse h u n R.HeldNotCanonical) (
+    if_then_else_ (ledgerMalformed u n) (C.refuse h u n R.LedgerMalformed) (
+    lastAmended h u n k (lastStanding anyLine 0 (linesOf n u))))
+unfolding amendOutcome
+amend-outcome h u n k = refl
+
 write-answer : (g : List ℕ) (o : Opening) (vs : List ℕ) → writeAnswer g (F.Listed (o .form)) vs (o .heldLength) ≡ answerOf (o .heldLength) (writerFrame g (F.Listed (o .form)) vs)
 unfolding writeAnswer
 write-answer g o vs = refl
@@ -145,18 +152,22 @@ module _ (o : Opening) (m : Model) where
   pub model-correct : (p k : ℕ) → modelStep o (correct p k) m
       ≡ if_then_else_ (leb (length (o .pixels)) p) (refuse m R.NoSuchPixel) (
       if_then_else_ (isFull o m) (refuse m R.LedgerFull) (
-      correctedBy m p k (written o (set (pixelsWith (o .pixels) (m .stack)) p k))))
+      correctedBy m (m .lines + 1) (m .stack) p k (written o (set (pixelsWith (o .pixels) (m .stack)) p k))))
   unfolding modelStep
   model-correct p k = refl
 
   model-keep : (d : Date) → modelStep o (keep d) m
-      ≡ if_then_else_ (not (isDate d)) (refuse m R.NotADate) (if_then_else_ (isFull o m) (refuse m R.LedgerFull) (accept m (kept d ∷ m .stack)))
+      ≡ if_then_else_ (not (isDate d)) (refuse m R.NotADate) (if_then_else_ (isFull o m) (refuse m R.LedgerFull) (accept (m .lines + 1) (kept d ∷ m .stack)))
   unfolding modelStep
   model-keep d = refl
 
   pub model-withdraw : modelStep o withdraw m ≡ withdrawnFrom o m (m .stack)
   unfolding modelStep
   model-withdraw = refl
+
+  pub model-amend : (k : ℕ) → modelStep o (amend k) m ≡ amendedFrom o m k (m .stack)
+  unfolding modelStep
+  model-amend k = refl
 
   pub model-purge : (d : Date) → modelStep o (mayPurge d) m
       ≡ record { reply = record { answer = if_then_else_ (not (isDate d)) (refused R.NotADate) (askedOf d (m .stack)); lines = m .lines }; state = m }
@@ -189,7 +200,7 @@ module _ (o : Opening) (t : List ℕ) (size : length t ≡ o .ledgerLength) (few
     pub entries : List Entry
     pub state : q .state ≡ stateAt frame lines
     pub model : r .state ≡ modelAt entries lines
-    pub added : lines ≡ ls ++ addedBy o (r .reply .answer) (lineFor o m c)
+    pub added : lines ≡ ls ++ addedBy o (r .reply .answer) (linesFor o m c)
     pub same : Same frame lines entries
 
   agree-if : {ls : List Line} {c : Call} {m : Model} {b d : Bool} {q₁ q₂ : Step State} {r₁ r₂ : Step Model} → b ≡ d
@@ -222,15 +233,16 @@ module _ (o : Opening) (t : List ℕ) (size : length t ≡ o .ledgerLength) (few
       same = s;
     }
 
-    accepts : (c : Call) (l : Line) (f′ : List ℕ) (es′ : List Entry) → lineFor o (modelAt es ls) c ≡ l ∷ [] → Same f′ (ls ++ l ∷ []) es′
-        → Agree ls c (modelAt es ls) (after (length ls) (L.Accepted (length ls + 1)) (heldBytes (o .heldLength) f′) (withLine (ledgerWith t ls) (length ls) l)) (accept (modelAt es ls) es′)
-    accepts c l f′ es′ e s′ = record {
+    -- with the call's lines added
+    accepts : (c : Call) (ks : List Line) (f′ : List ℕ) (es′ : List Entry) → linesFor o (modelAt es ls) c ≡ ks → Same f′ (ls ++ ks) es′
+        → Agree ls c (modelAt es ls) (after (length ls) (L.Accepted (length ls + length ks)) (heldBytes (o .heldLength) f′) (withLines (ledgerWith t ls) (length ls) ks)) (accept (length ls + length ks) es′)
+    accepts c ks f′ es′ e s′ = record {
       reply = refl;
       frame = f′;
-      lines = ls ++ l ∷ [];
+      lines = ls ++ ks;
       entries = es′;
-      state = rw (ledger-more t ls l, one-more ls l);
-      model = rw (one-more ls l);
+      state = rw (ledger-more t ls ks, length-append ls ks);
+      model = rw (length-append ls ks);
       added = rw e;
       same = s′;
     }
@@ -238,11 +250,12 @@ module _ (o : Opening) (t : List ℕ) (size : length t ≡ o .ledgerLength) (few
     pixels : Pixels (length (o .pixels)) (px es)
     pixels = good-pixels o es (s .good)
 
-    full : leb (length (ledgerWith t ls) / 16) (length ls) ≡ leb (o .ledgerLength / 16) (length ls)
-    full = rw (s .holds .size, size)
+    -- room behind n lines
+    full : (n : ℕ) → leb (length (ledgerWith t ls) / 16) n ≡ leb (o .ledgerLength / 16) n
+    full n = rw (s .holds .size, size)
 
-    room : leb (length (ledgerWith t ls) / 16) (length ls) ≡ false → length ls < length t / 16
-    room e = leb-false (length t / 16) (length ls) (rw (s .holds .size) at e)
+    room : (n : ℕ) → leb (length (ledgerWith t ls) / 16) n ≡ false → n < length t / 16
+    room n e = leb-false (length t / 16) n (rw (s .holds .size) at e)
 
     -- one more line of kind 0 or 1
     more : (l : Line) (f′ : List ℕ) (e : Entry) → withdraws l ≡ false → lineStack (o .pixels) (e ∷ es) ≡ l ∷ lineStack (o .pixels) es
@@ -276,9 +289,9 @@ module _ (o : Opening) (t : List ℕ) (size : length t ≡ o .ledgerLength) (few
           after-keep (not (isDate d)) (leb (length (ledgerWith t ls) / 16) (length ls)) (length ls) (heldBytes (o .heldLength) f) (ledgerWith t ls) (withLine (ledgerWith t ls) (length ls) (keepLine d)),
         )
         (agree-if {b = not (isDate d)} refl (refuses (keep d) R.NotADate) (λ day.
-        agree-if full (refuses (keep d) R.LedgerFull) (λ free.
+        agree-if (full (length ls)) (refuses (keep d) R.LedgerFull) (λ free.
         let date : isDate d ≡ true = not-false (isDate d) day in
-        accepts (keep d) (keepLine d) f (kept d ∷ es) refl (more (keepLine d) f (kept d) refl refl (room free) (keep-sized d date) (rw date) (s .fits) (s .good)))))
+        accepts (keep d) (keepLine d ∷ []) f (kept d ∷ es) refl (more (keepLine d) f (kept d) refl refl (room (length ls) free) (keep-sized d date) (rw date) (s .fits) (s .good)))))
 
     purge-agrees : (d : Date) → Agree ls (mayPurge d) (modelAt es ls) (step (mayPurge d) (stateAt f ls)) (modelStep o (mayPurge d) (modelAt es ls))
     unfolding step
@@ -308,18 +321,18 @@ module _ (o : Opening) (t : List ℕ) (size : length t ≡ o .ledgerLength) (few
         none (refused r) = append-nil ls
 
     -- the held buffer becomes the writer's frame, or not: 17, 18
-    writes-agree : (p k : ℕ) (l : Line) (made : Writer.Made)
+    writes-agree : (c : Call) (p k : ℕ) (below : List Entry) (ks : List Line) (made : Writer.Made)
         → ((f′ : List ℕ) → made ≡ frame f′ → length f′ ≤ o .heldLength
-        → Agree ls (correct p k) (modelAt es ls) (after (length ls) (L.Accepted (length ls + 1)) (heldBytes (o .heldLength) f′) (withLine (ledgerWith t ls) (length ls) l)) (accept (modelAt es ls) (corrected p k ∷ es)))
-        → Agree ls (correct p k) (modelAt es ls) (afterOutcome (length ls) (heldAs (heldBytes (o .heldLength) f) (ledgerWith t ls) (length ls) l made)) (correctedBy (modelAt es ls) p k (answerOf (o .heldLength) made))
-    writes-agree p k l (Writer.refused r) next = refuses (correct p k) r
-    writes-agree p k l (frame f′) next = rw (held-length o (px es) f pixels (s .fits) given) (go (ltb (o .heldLength) (length f′)) refl)
+        → Agree ls c (modelAt es ls) (after (length ls) (L.Accepted (length ls + length ks)) (heldBytes (o .heldLength) f′) (withLines (ledgerWith t ls) (length ls) ks)) (accept (length ls + length ks) (corrected p k ∷ below)))
+        → Agree ls c (modelAt es ls) (afterOutcome (length ls) (heldAs (heldBytes (o .heldLength) f) (ledgerWith t ls) (length ls) ks made)) (correctedBy (modelAt es ls) (length ls + length ks) below p k (answerOf (o .heldLength) made))
+    writes-agree c p k below ks (Writer.refused r) next = refuses c r
+    writes-agree c p k below ks (frame f′) next = rw (held-length o (px es) f pixels (s .fits) given) (go (ltb (o .heldLength) (length f′)) refl)
       where
         go : (b : Bool) → ltb (o .heldLength) (length f′) ≡ b
-            → Agree ls (correct p k) (modelAt es ls)
-            (afterOutcome (length ls) (if_then_else_ b (C.refuse (heldBytes (o .heldLength) f) (ledgerWith t ls) (length ls) R.OutputShort) (outcome (L.Accepted (length ls + 1)) (heldBytes (o .heldLength) f′) (withLine (ledgerWith t ls) (length ls) l))))
-            (correctedBy (modelAt es ls) p k (if_then_else_ b (W.Refused R.OutputShort) (W.Written (length f′))))
-        go true e = refuses (correct p k) R.OutputShort
+            → Agree ls c (modelAt es ls)
+            (afterOutcome (length ls) (if_then_else_ b (C.refuse (heldBytes (o .heldLength) f) (ledgerWith t ls) (length ls) R.OutputShort) (outcome (L.Accepted (length ls + length ks)) (heldBytes (o .heldLength) f′) (withLines (ledgerWith t ls) (length ls) ks))))
+            (correctedBy (modelAt es ls) (length ls + length ks) below p k (if_then_else_ b (W.Refused R.OutputShort) (W.Written (length f′))))
+        go true e = refuses c R.OutputShort
         go false e = next f′ refl (ltb-false (o .heldLength) (length f′) e)
 
     correct-sized : (p k : ℕ) → p < length (o .pixels) → k < 4294967296 → Sized (correctionLine p (getD (px es) p 0) k)
@@ -345,18 +358,41 @@ module _ (o : Opening) (t : List ℕ) (size : length t ≡ o .ledgerLength) (few
           write-answer (o .header) o (set (px es) p k),
         )
         (agree-in {b = leb (length (o .pixels)) p} (afterOutcome n) _ _ refl (refuses (correct p k) R.NoSuchPixel) (λ inside.
-        agree-in (afterOutcome n) _ _ full (refuses (correct p k) R.LedgerFull) (λ free.
-        writes-agree p k line (writerFrame (o .header) (F.Listed (o .form)) (set (px es) p k)) (λ f′ made fits.
+        agree-in (afterOutcome n) _ _ (full n) (refuses (correct p k) R.LedgerFull) (λ free.
+        writes-agree (correct p k) p k es (line ∷ []) (writerFrame (o .header) (F.Listed (o .form)) (set (px es) p k)) (λ f′ made fits.
         let there : p < length (o .pixels) = leb-false (length (o .pixels)) p inside in
         let new : Fits o (set (px es) p k) f′ = record { made = made; room = fits } in
-        accepts (correct p k) line f′ (corrected p k ∷ es) refl
-        (more line f′ (corrected p k) refl refl (room free) (correct-sized p k there small) refl new (there, small, record { frame = f′; fits = new }, s .good))))))
+        accepts (correct p k) (line ∷ []) f′ (corrected p k ∷ es) refl
+        (more line f′ (corrected p k) refl refl (room n free) (correct-sized p k there small) refl new (there, small, record { frame = f′; fits = new }, s .good))))))
 
     -- the last line that stands is the top entry's
-    found-last : foundLines (lastStanding anyLine 0 (linesOf (length ls) (ledgerWith t ls))) ≡ firstWhere anyLine (lineStack (o .pixels) es)
+    pub found-last : foundLines (lastStanding anyLine 0 (linesOf (length ls) (ledgerWith t ls))) ≡ firstWhere anyLine (lineStack (o .pixels) es)
     found-last = rw (s .holds .read) (last-is-top anyLine 0 ls ∙ rw (s .top))
 
-  -- a correction on top is taken back: 24, 23, 17 and 18 are not due
+  -- a correction on top: 24 and 23 are not due
+  corrected-top : {f : List ℕ} {ls : List Line} (p k : ℕ) (es : List Entry) (s : Same f ls (corrected p k ∷ es)) (outside differs x : Outcome)
+      → if_then_else_ (leb (heldCount (heldBytes (o .heldLength) f)) p) outside (if_then_else_ (not (eqb (getD (heldPixels (heldBytes (o .heldLength) f)) p 0) k)) differs x) ≡ x
+  unfolding pixelsWith
+  corrected-top {f} p k es s outside differs x =
+      let vs : List ℕ = set (px es) p k in
+      let v : Pixels (length (o .pixels)) vs = pixels s in
+      let there : p < length (px es) = rw (length-with (o .pixels) es) (s .good .0) in
+      rw (
+        held-count o vs f v (s .fits) given,
+        lt-leb (length (o .pixels)) p (s .good .0),
+        held-pixels o vs f v (s .fits) given,
+        getD-set-same (px es) p k 0 there,
+        eq-eqb k k refl,
+      )
+
+  -- another count for it: the writer's frame for the pixels below with that count
+  top-changed : {f : List ℕ} {ls : List Line} (p k : ℕ) (es : List Entry) (s : Same f ls (corrected p k ∷ es)) (n count : ℕ)
+      → changed (heldBytes (o .heldLength) f) (ledgerWith t ls) n p count ≡ writerFrame (o .header) (F.Listed (o .form)) (set (px es) p count)
+  unfolding pixelsWith
+  top-changed {f} {ls} p k es s n count =
+      changed-is o (set (px es) p k) f (pixels s) (s .fits) given (ledgerWith t ls) n p count ∙ rw (set-set (px es) p k count)
+
+  -- it is taken back: 17 and 18 are not due either
   correction-back : {f : List ℕ} {ls : List Line} (p k : ℕ) (es : List Entry) (s : Same f ls (corrected p k ∷ es)) (w : Writes o (px es))
       → correctionBack (heldBytes (o .heldLength) f) (ledgerWith t ls) (length ls) (correctionLine p (getD (px es) p 0) k)
       ≡ if_then_else_ (leb (length (ledgerWith t ls) / 16) (length ls)) (C.refuse (heldBytes (o .heldLength) f) (ledgerWith t ls) (length ls) R.LedgerFull)
@@ -364,23 +400,11 @@ module _ (o : Opening) (t : List ℕ) (size : length t ≡ o .ledgerLength) (few
   unfolding pixelsWith
   correction-back {f} {ls} p k es s w =
       let vs : List ℕ = set (px es) p k in
-      let old : ℕ = getD (px es) p 0 in
-      let u : List ℕ = ledgerWith t ls in
-      let n : ℕ = length ls in
-      let v : Pixels (length (o .pixels)) vs = pixels s in
-      let there : p < length (px es) = rw (length-with (o .pixels) es) (s .good .0) in
-      let small : old < 4294967296 = good-pixels o es (s .good .3) .small p in
-      let now : getD vs p 0 ≡ k = getD-set-same (px es) p k 0 there in
-      let undone : set vs p old ≡ px es = set-set (px es) p k old ∙ set-getD (px es) p 0 in
-      let made : changed (heldBytes (o .heldLength) f) u n p old ≡ frame (w .frame) = changed-is o vs f v (s .fits) given u n p old ∙ rw undone (w .fits .made) in
-      rw (
+      let made : changed (heldBytes (o .heldLength) f) (ledgerWith t ls) (length ls) p (getD (px es) p 0) ≡ frame (w .frame) =
+      top-changed p k es s (length ls) (getD (px es) p 0) ∙ rw (set-getD (px es) p 0) (w .fits .made) in
+      corrected-top p k es s _ _ _ ∙ rw (
         made,
-        held-count o vs f v (s .fits) given,
-        lt-leb (length (o .pixels)) p (s .good .0),
-        held-pixels o vs f v (s .fits) given,
-        now,
-        eq-eqb k k refl,
-        held-length o vs f v (s .fits) given,
+        held-length o vs f (pixels s) (s .fits) given,
         le-ltb (o .heldLength) (length (w .frame)) (w .fits .room),
       )
 
@@ -393,8 +417,8 @@ module _ (o : Opening) (t : List ℕ) (size : length t ≡ o .ledgerLength) (few
       let u : List ℕ = ledgerWith t ls in
       let n : ℕ = length ls in
       rw (found-one (lastBack h u n) (λ l. lineBack h u n (l .kind) l) (λ i l. refl) (lastStanding anyLine 0 (linesOf n u)) (keepLine d) (found-last s))
-      (agree-in (afterOutcome n) _ _ (full s) (refuses s withdraw R.LedgerFull) (λ free.
-      accepts s withdraw withdrawalLine f es refl (less s f (keepLine d) es (s .top) (room s free) (s .fits) (s .good))))
+      (agree-in (afterOutcome n) _ _ (full s n) (refuses s withdraw R.LedgerFull) (λ free.
+      accepts s withdraw (withdrawalLine ∷ []) f es refl (less s f (keepLine d) es (s .top) (room s n free) (s .fits) (s .good))))
   withdraw-from {f} {ls} (corrected p k ∷ es) s =
       let h : List ℕ = heldBytes (o .heldLength) f in
       let u : List ℕ = ledgerWith t ls in
@@ -402,8 +426,8 @@ module _ (o : Opening) (t : List ℕ) (size : length t ≡ o .ledgerLength) (few
       let line : Line = correctionLine p (getD (px es) p 0) k in
       let w : Writes o (px es) = good-writes o es (s .good .3) in
       rw (found-one (lastBack h u n) (λ l. lineBack h u n (l .kind) l) (λ i l. refl) (lastStanding anyLine 0 (linesOf n u)) line (found-last s), correction-back p k es s w)
-      (agree-in (afterOutcome n) _ _ (full s) (refuses s withdraw R.LedgerFull) (λ free.
-      accepts s withdraw withdrawalLine (w .frame) es refl (less s (w .frame) line es (s .top) (room s free) (w .fits) (s .good .3))))
+      (agree-in (afterOutcome n) _ _ (full s n) (refuses s withdraw R.LedgerFull) (λ free.
+      accepts s withdraw (withdrawalLine ∷ []) (w .frame) es refl (less s (w .frame) line es (s .top) (room s n free) (w .fits) (s .good .3))))
 
   withdraw-agrees : {f : List ℕ} {ls : List Line} (es : List Entry) (s : Same f ls es) → Agree ls withdraw (modelAt es ls) (step withdraw (stateAt f ls)) (modelStep o withdraw (modelAt es ls))
   unfolding step
@@ -411,10 +435,60 @@ module _ (o : Opening) (t : List ℕ) (size : length t ≡ o .ledgerLength) (few
       rw (withdraw-outcome (heldBytes (o .heldLength) f) (ledgerWith t ls) (length ls), is-held o (px es) f (pixels s) (s .fits) given, s .holds .well, model-withdraw o (modelAt es ls))
       (withdraw-from es s)
 
+  -- a correction on top is amended: the line of a withdrawal and then that of a correction, each as by its own call; between them is the frame that
+  -- was there before the correction
+  amended : {f : List ℕ} {ls : List Line} {p k : ℕ} {es : List Entry} (s : Same f ls (corrected p k ∷ es)) (count : ℕ) → count < 4294967296 → (f′ : List ℕ)
+      → Fits o (set (px es) p count) f′ → length ls + 1 < length t / 16
+      → Same f′ (ls ++ withdrawalLine ∷ correctionLine p (getD (px es) p 0) count ∷ []) (corrected p count ∷ es)
+  unfolding lineStack pixelsWith rightFor
+  amended {f} {ls} {p} {k} {es} s count small f′ new free =
+      let below : Good o es = s .good .3 in
+      let w : Writes o (px es) = good-writes o es below in
+      let back : Same (w .frame) (ls ++ withdrawalLine ∷ []) es = less s (w .frame) (correctionLine p (getD (px es) p 0) k) es (s .top) (omega arith) (w .fits) below in
+      let there : p < length (o .pixels) = s .good .0 in
+      let line : Line = correctionLine p (getD (px es) p 0) count in
+      let both : Same f′ ((ls ++ withdrawalLine ∷ []) ++ line ∷ []) (corrected p count ∷ es) =
+      more back line f′ (corrected p count) refl refl (rw (one-more ls withdrawalLine) free) (correct-sized back p count there small) refl new (there, small, record { frame = f′; fits = new }, below) in
+      rw (append-assoc ls (withdrawalLine ∷ []) (line ∷ [])) at both
+
+  amend-from : {f : List ℕ} {ls : List Line} (count : ℕ) → count < 4294967296 → (es : List Entry) (s : Same f ls es)
+      → Agree ls (amend count) (modelAt es ls) (afterOutcome (length ls) (lastAmended (heldBytes (o .heldLength) f) (ledgerWith t ls) (length ls) count (lastStanding anyLine 0 (linesOf (length ls) (ledgerWith t ls))))) (amendedFrom o (modelAt es ls) count es)
+  unfolding lineStack pixelsWith
+  amend-from {f} {ls} count small [] s = rw (found-none (lastStanding anyLine 0 (linesOf (length ls) (ledgerWith t ls))) (found-last s)) (refuses s (amend count) R.NothingStands)
+  amend-from {f} {ls} count small (kept d ∷ es) s =
+      let h : List ℕ = heldBytes (o .heldLength) f in
+      let u : List ℕ = ledgerWith t ls in
+      let n : ℕ = length ls in
+      rw (found-one (lastAmended h u n count) (λ l. lineAmended h u n count (l .kind) l) (λ i l. refl) (lastStanding anyLine 0 (linesOf n u)) (keepLine d) (found-last s))
+      (refuses s (amend count) R.LastIsKeep)
+  amend-from {f} {ls} count small (corrected p k ∷ es) s =
+      let h : List ℕ = heldBytes (o .heldLength) f in
+      let u : List ℕ = ledgerWith t ls in
+      let n : ℕ = length ls in
+      let two : List Line = withdrawalLine ∷ correctionLine p (getD (px es) p 0) count ∷ [] in
+      rw (
+        found-one (lastAmended h u n count) (λ l. lineAmended h u n count (l .kind) l) (λ i l. refl) (lastStanding anyLine 0 (linesOf n u)) (correctionLine p (getD (px es) p 0) k) (found-last s),
+        corrected-top p k es s (C.refuse h u n R.NoSuchPixel) (C.refuse h u n R.PixelDiffers) (if_then_else_ (leb (length u / 16) (n + 1)) (C.refuse h u n R.LedgerFull) (heldAs h u n two (changed h u n p count))),
+        top-changed p k es s n count,
+        write-answer (o .header) o (set (px es) p count),
+      )
+      (agree-in (afterOutcome n) _ _ (full s (n + 1)) (refuses s (amend count) R.LedgerFull) (λ free.
+      writes-agree s (amend count) p count es two (writerFrame (o .header) (F.Listed (o .form)) (set (px es) p count)) (λ f′ made fits.
+      accepts s (amend count) two f′ (corrected p count ∷ es) refl
+      (amended s count small f′ (record { made = made; room = fits }) (room s (n + 1) free)))))
+
+  amend-agrees : {f : List ℕ} {ls : List Line} (count : ℕ) → count < 4294967296 → (es : List Entry) (s : Same f ls es)
+      → Agree ls (amend count) (modelAt es ls) (step (amend count) (stateAt f ls)) (modelStep o (amend count) (modelAt es ls))
+  unfolding step
+  amend-agrees {f} {ls} count small es s =
+      rw (amend-outcome (heldBytes (o .heldLength) f) (ledgerWith t ls) (length ls) count, is-held o (px es) f (pixels s) (s .fits) given, s .holds .well, model-amend o (modelAt es ls) count)
+      (amend-from count small es s)
+
   pub step-agrees : (c : Call) → Counted c → {f : List ℕ} {ls : List Line} {es : List Entry} → Same f ls es → Agree ls c (modelAt es ls) (step c (stateAt f ls)) (modelStep o c (modelAt es ls))
   step-agrees (correct p k) h s = correct-agrees s p k h
   step-agrees (keep d) h s = keep-agrees s d
   step-agrees withdraw h {f} {ls} {es} s = withdraw-agrees es s
+  step-agrees (amend k) h {f} {ls} {es} s = amend-agrees k h es s
   step-agrees (mayPurge d) h s = purge-agrees s d
 
   -- a list of calls on ls lines, and the model's
@@ -428,7 +502,7 @@ module _ (o : Opening) (t : List ℕ) (size : length t ≡ o .ledgerLength) (few
     pub added : lines ≡ ls ++ linesAdded o cs m
     pub same : Same frame lines entries
 
-  added-more : (c : Call) (cs : List Call) (m : Model) → linesAdded o (c ∷ cs) m ≡ addedBy o (modelStep o c m .reply .answer) (lineFor o m c) ++ linesAdded o cs (modelStep o c m .state)
+  added-more : (c : Call) (cs : List Call) (m : Model) → linesAdded o (c ∷ cs) m ≡ addedBy o (modelStep o c m .reply .answer) (linesFor o m c) ++ linesAdded o cs (modelStep o c m .state)
   unfolding linesAdded
   added-more c cs m = refl
 

@@ -16,6 +16,7 @@ use Rattle.ledger.specs.Ledger.{capacity, ledgerMalformed, withLine}
 use Rattle.ledger.proofs.Packing.{Sized}
 use Rattle.ledger.proofs.StandingLaws.{stack, length-standing}
 use Rattle.ledger.proofs.Appending.{length-line, lines-appended, length-appended, ledger-appended}
+use Rattle.archive.specs.Calls.{withLines}
 use Rattle.model.specs.Run.{linesBytes}
 
 -- the ledger t with lines written into it from the first place on
@@ -37,14 +38,19 @@ pub one-more : (ls : List Line) (l : Line) → length (ls ++ l ∷ []) ≡ lengt
 one-more ls l = length-append ls (l ∷ [])
 
 -- a line appended to them
-pub ledger-more : (t : List ℕ) (ls : List Line) (l : Line) → withLine (ledgerWith t ls) (length ls) l ≡ ledgerWith t (ls ++ l ∷ [])
+ledger-one : (t : List ℕ) (ls : List Line) (l : Line) → withLine (ledgerWith t ls) (length ls) l ≡ ledgerWith t (ls ++ l ∷ [])
 unfolding withLine ledgerWith
-ledger-more t ls l =
+ledger-one t ls l =
     let n : ℕ = length ls * 16 in
     let e : length (linesBytes ls) ≡ n = length-lines-bytes ls in
     let m : length (ls ++ l ∷ []) * 16 ≡ n + 16 = omega (arith, one-more ls l) in
     let k : n + 16 ≡ length (linesBytes ls) + 16 = omega arith in
     rw (take-at (linesBytes ls) (drop n t) n e, k, drop-append-add (linesBytes ls) (drop n t) 16, drop-drop, m, lines-bytes-more ls l, append-assoc)
+
+-- several lines, one after the other
+pub ledger-more : (t : List ℕ) (ls ks : List Line) → withLines (ledgerWith t ls) (length ls) ks ≡ ledgerWith t (ls ++ ks)
+ledger-more t ls [] = rw append-nil
+ledger-more t ls (k ∷ ks) = rw (ledger-one t ls k, ← one-more ls k) (ledger-more t (ls ++ k ∷ []) ks ∙ rw append-assoc)
 
 -- what is known of a ledger with its lines
 pub record Holds (t : List ℕ) (ls : List Line) : Type 0 where
@@ -63,7 +69,7 @@ holds-more {t} {ls} h l room sized right w =
     let k : length ls < capacity now = rw (h .size) room in
     let e : length (standing (linesOf (length ls) now)) ≡ length (stack [] ls) = rw (h .read) (length-standing ls) in
     record {
-      read = rw (one-more ls l, ← ledger-more t ls l) (lines-appended now (length ls) l k sized right ∙ rw (h .read));
-      well = rw (one-more ls l, ← ledger-more t ls l) (ledger-appended now (length ls) l k sized right (h .well) ∙ rw e w);
-      size = rw (← ledger-more t ls l) (length-appended now (length ls) l k sized right ∙ h .size);
+      read = rw (one-more ls l, ← ledger-one t ls l) (lines-appended now (length ls) l k sized right ∙ rw (h .read));
+      well = rw (one-more ls l, ← ledger-one t ls l) (ledger-appended now (length ls) l k sized right (h .well) ∙ rw e w);
+      size = rw (← ledger-one t ls l) (length-appended now (length ls) l k sized right ∙ h .size);
     }

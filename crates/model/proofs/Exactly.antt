@@ -4,7 +4,7 @@
 use mathlib.Core.Path.{_≡_, refl, sym, ap, subst, _∙_}
 use mathlib.Core.Bool.{Bool, true, false, not, _&&_, _||_}
 use mathlib.Core.List.{List, [], _∷_, _++_, reverse, reverse-cons}
-use Prim.Native.Nat.{ℕ, suc, _^_, _≤_, _<_}
+use Prim.Native.Nat.{ℕ, suc, _+_, _^_, _≤_, _<_}
 use native.Mathlib.Omega.{arith}
 use lib.ListN.{length, getD, length-reverse}
 use lib.Dec.{eqb}
@@ -56,7 +56,7 @@ from-stack : (o : Opening) (m : Model) (es : List Entry) → isAccepted (withdra
 from-stack o m [] = refl
 from-stack o m (e ∷ es) = rw (ne-eqb (suc (length es)) 0 (λ z. omega arith)) (go (isFull o m))
   where
-    go : (b : Bool) → isAccepted (if_then_else_ b (refuse m R.LedgerFull) (accept m es) .reply .answer) ≡ not b
+    go : (b : Bool) → isAccepted (if_then_else_ b (refuse m R.LedgerFull) (accept (m .lines + 1) es) .reply .answer) ≡ not b
     go true = refl
     go false = refl
 
@@ -103,7 +103,7 @@ module _ (bytes pixels held ledger : List ℕ) (form : Form) (rows columns end n
   later = run step cs (openedState bytes pixels form held ledger) .state
 
   module _ (P : State → Type 0) where
-    by-same : ((o : Opening) (size : length ledger ≡ o .ledgerLength) (few : length (o .pixels) ≤ 2 ^ 24) (given : Given o)
+    pub by-same : ((o : Opening) (size : length ledger ≡ o .ledgerLength) (few : length (o .pixels) ≤ 2 ^ 24) (given : Given o)
         (f : List ℕ) (ls : List Line) (es : List Entry) → Same o ledger size few given f ls es → P (stateAt o ledger size few given f ls)) → P later
     unfolding openingOf
     by-same k =

@@ -8,3 +8,4 @@ pub mod Demand3
 pub mod Exactly
 pub mod Refusals
 pub mod Prefix
+pub mod Amended

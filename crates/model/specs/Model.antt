@@ -1,4 +1,4 @@
--- Document 01, "The plain book": the reference model that demand 3 compares with.
+-- Document 01, "The plain book", with document 02's A6: the reference model that demand 3 compares with.
 use Prim.Native.Nat.{ℕ, _+_, _/_}
 use mathlib.Core.Bool.{Bool, not}
 use mathlib.Core.List.{List, [], _∷_, _++_}
@@ -20,11 +20,12 @@ use Rattle.ledger.specs.declared.Line.{Line}
 use Rattle.ledger.specs.Ledger.{keepLine}
 use Rattle.archive.specs.Calls.{noDate, correctionLine, withdrawalLine}
 
--- the four calls, each with its own arguments: a pixel number and a count, a date, nothing, the day asked
+-- the calls, each with its own arguments: a pixel number and a count, a date, nothing, a count, the day asked
 pub data Call : Type 0 where
   correct : ℕ → ℕ → Call
   keep : Date → Call
   withdraw : Call
+  amend : ℕ → Call
   mayPurge : Date → Call
 
 pub data Answer : Type 0 where
@@ -85,17 +86,14 @@ pixelsWith opened (kept d ∷ es) = pixelsWith opened es
 abbrev pub refuse : Model → Refusal → Step Model
 refuse m r = record { reply = record { answer = refused r; lines = m .lines }; state = m }
 
--- accepted: the stack becomes this one, and one line more is used
-abbrev pub accept : Model → List Entry → Step Model
-accept m es = record {
-  reply = record { answer = accepted; lines = m .lines + 1 };
-  state = record { stack = es; lines = m .lines + 1 };
-}
+-- accepted: so many lines are used, and the stack becomes this one
+abbrev pub accept : ℕ → List Entry → Step Model
+accept lines es = record { reply = record { answer = accepted; lines = lines }; state = record { stack = es; lines = lines } }
 
--- by what the writer gives: 17 or 18; otherwise the correction goes on top
-abbrev pub correctedBy : Model → ℕ → ℕ → WriteAnswer → Step Model
-correctedBy m pixel count (W.Written n) = accept m (corrected pixel count ∷ m .stack)
-correctedBy m pixel count (W.Refused r) = refuse m r
+-- by what the writer gives: 17 or 18; otherwise so many lines are used, and the correction goes on top of the entries below it
+abbrev pub correctedBy : Model → ℕ → List Entry → ℕ → ℕ → WriteAnswer → Step Model
+correctedBy m lines below pixel count (W.Written n) = accept lines (corrected pixel count ∷ below)
+correctedBy m lines below pixel count (W.Refused r) = refuse m r
 
 -- by the uppermost keep date: 26 if there is none, 27 if it is not before the day asked
 unfoldable pub askedOf : Date → List Entry → Answer
@@ -109,6 +107,10 @@ module _ (o : Opening) where
   abbrev pub isFull : Model → Bool
   isFull m = leb (o .ledgerLength / 16) (m .lines)
 
+  -- fewer than two lines are free
+  abbrev pub lacksTwo : Model → Bool
+  lacksTwo m = leb (o .ledgerLength / 16) (m .lines + 1)
+
   -- the model's pixels
   abbrev pub modelPixels : Model → List ℕ
   modelPixels m = pixelsWith (o .pixels) (m .stack)
@@ -120,7 +122,15 @@ module _ (o : Opening) where
   -- by the stack: 22 if it is empty; 21; otherwise the top entry goes
   abbrev pub withdrawnFrom : Model → List Entry → Step Model
   withdrawnFrom m [] = refuse m R.NothingStands
-  withdrawnFrom m (e ∷ es) = if isFull m then refuse m R.LedgerFull else accept m es
+  withdrawnFrom m (e ∷ es) = if isFull m then refuse m R.LedgerFull else accept (m .lines + 1) es
+
+  -- by the stack: 22 if it is empty, 31 if a date is on top; 21; otherwise the top entry goes, and by the writer its pixel with the new count comes
+  abbrev pub amendedFrom : Model → ℕ → List Entry → Step Model
+  amendedFrom m count [] = refuse m R.NothingStands
+  amendedFrom m count (kept d ∷ es) = refuse m R.LastIsKeep
+  amendedFrom m count (corrected pixel old ∷ es) =
+      if lacksTwo m then refuse m R.LedgerFull else
+      correctedBy m (m .lines + 2) es pixel count (written (set (pixelsWith (o .pixels) es) pixel count))
 
   unfoldable pub modelStep : Call → Model → Step Model
   unfolding pixelsWith askedOf isDate
@@ -128,28 +138,38 @@ module _ (o : Opening) where
   modelStep (correct pixel count) m =
       if leb (length (o .pixels)) pixel then refuse m R.NoSuchPixel else
       if isFull m then refuse m R.LedgerFull else
-      correctedBy m pixel count (written (set (modelPixels m) pixel count))
+      correctedBy m (m .lines + 1) (m .stack) pixel count (written (set (modelPixels m) pixel count))
   -- keep entry: 25, 21; otherwise the date goes on top
   modelStep (keep d) m =
       if not (isDate d) then refuse m R.NotADate else
       if isFull m then refuse m R.LedgerFull else
-      accept m (kept d ∷ m .stack)
+      accept (m .lines + 1) (kept d ∷ m .stack)
   -- withdrawal: 22, 21
   modelStep withdraw m = withdrawnFrom m (m .stack)
+  -- amending: 22, 31, 21, 17 or 18
+  modelStep (amend count) m = amendedFrom m count (m .stack)
   -- purge question: 25, 26, 27; it changes nothing
   modelStep (mayPurge day) m = record {
     reply = record { answer = if not (isDate day) then refused R.NotADate else askedOf day (m .stack); lines = m .lines };
     state = m;
   }
 
-  -- the line of "The ledger" for a call, the model's count as the old one; a purge question has none
-  abbrev pub lineFor : Model → Call → List Line
-  lineFor m (correct pixel count) = correctionLine pixel (getD (modelPixels m) pixel 0) count ∷ []
-  lineFor m (keep d) = keepLine d ∷ []
-  lineFor m withdraw = withdrawalLine ∷ []
-  lineFor m (mayPurge day) = []
+  -- the two lines of amending: the old count is that of the pixels without the entry taken back
+  abbrev pub amendLines : ℕ → List Entry → List Line
+  amendLines count [] = []
+  amendLines count (kept d ∷ es) = []
+  amendLines count (corrected pixel old ∷ es) =
+      withdrawalLine ∷ correctionLine pixel (getD (pixelsWith (o .pixels) es) pixel 0) count ∷ []
 
-  -- an accepted call adds its line, a refused one none
+  -- the lines of "The ledger" for a call, the model's count as the old one; a purge question has none
+  abbrev pub linesFor : Model → Call → List Line
+  linesFor m (correct pixel count) = correctionLine pixel (getD (modelPixels m) pixel 0) count ∷ []
+  linesFor m (keep d) = keepLine d ∷ []
+  linesFor m withdraw = withdrawalLine ∷ []
+  linesFor m (amend count) = amendLines count (m .stack)
+  linesFor m (mayPurge day) = []
+
+  -- an accepted call adds its lines, a refused one none
   abbrev pub addedBy : Answer → List Line → List Line
   addedBy accepted ls = ls
   addedBy (refused r) ls = []
@@ -158,7 +178,7 @@ module _ (o : Opening) where
   unfoldable pub linesAdded : List Call → Model → List Line
   unfolding modelStep
   linesAdded [] m = []
-  linesAdded (c ∷ cs) m = addedBy (modelStep c m .reply .answer) (lineFor m c) ++ linesAdded cs (modelStep c m .state)
+  linesAdded (c ∷ cs) m = addedBy (modelStep c m .reply .answer) (linesFor m c) ++ linesAdded cs (modelStep c m .state)
 
 -- what a line and an entry are compared by
 pub record Seen : Type 0 where

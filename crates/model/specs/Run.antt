@@ -22,8 +22,8 @@ use Rattle.ledger.specs.Lines.{lineBytes}
 use Rattle.ledger.specs.Standing.{keeps}
 use Rattle.ledger.specs.Ledger.{keepAnswer, keepBytes, purgeAnswer}
 use Rattle.archive.specs.Open.{openHeld}
-use Rattle.archive.specs.Calls.{Outcome, correctOutcome, withdrawOutcome}
-use Rattle.model.specs.Model.{Call, correct, keep, withdraw, mayPurge, Answer, accepted, refused, Step, Opening}
+use Rattle.archive.specs.Calls.{Outcome, correctOutcome, withdrawOutcome, amendOutcome}
+use Rattle.model.specs.Model.{Call, correct, keep, withdraw, amend, mayPurge, Answer, accepted, refused, Step, Opening}
 
 -- the held buffer and the ledger as the last call left them, and the number of lines that it gave
 pub record State : Type 0 where
@@ -61,6 +61,7 @@ unfoldable pub step : Call → State → Step State
 step (correct pixel count) s = afterOutcome (s .lines) (correctOutcome (s .held) (s .ledger) (s .lines) pixel count)
 step (keep d) s = after (s .lines) (keepAnswer (s .ledger) (s .lines) d) (s .held) (keepBytes (s .ledger) (s .lines) d)
 step withdraw s = afterOutcome (s .lines) (withdrawOutcome (s .held) (s .ledger) (s .lines))
+step (amend count) s = afterOutcome (s .lines) (amendOutcome (s .held) (s .ledger) (s .lines) count)
 step (mayPurge day) s =
     record { reply = record { answer = purged (purgeAnswer (s .ledger) (s .lines) day); lines = s .lines }; state = s }
 
@@ -94,6 +95,7 @@ abbrev pub Counted : Call → Type 0
 Counted (correct pixel count) = count < 4294967296
 Counted (keep d) = Unit {0}
 Counted withdraw = Unit {0}
+Counted (amend count) = count < 4294967296
 Counted (mayPurge day) = Unit {0}
 
 unfoldable pub AllCounted : List Call → Type 0

@@ -126,6 +126,7 @@ unfolding step
 lines-given (M.correct pixel count) s = refl
 lines-given (M.keep d) s = refl
 lines-given M.withdraw s = refl
+lines-given (M.amend count) s = refl
 lines-given (M.mayPurge day) s = refl
 
 -- the calls fit both lists

@@ -52,7 +52,7 @@ same-length-4 : tie.Need-same-length-4
 same-length-4 c = search needs
 
 returns-2 : tie.Need-returns-2
-returns-2 c = (ap L.Refused (c .full-refusal .ensures) ∙ answer-of (correct-is _ _ _ (surveyed _ _ _ (sym (c .before .before .before .before .before .before .before .survey .ensures) ∙ c .before .before .before .before .before .enum-told .given .1) .0) _ _ ∙ changing-full _ _ _ (sym (c .before .before .before .is-full .ensures) ∙ c .before .before .if1 .taken) Any _ _ _), (held-of (correct-is _ _ _ (surveyed _ _ _ (sym (c .before .before .before .before .before .before .before .survey .ensures) ∙ c .before .before .before .before .before .enum-told .given .1) .0) _ _ ∙ changing-full _ _ _ (sym (c .before .before .before .is-full .ensures) ∙ c .before .before .if1 .taken) Any _ _ _), ledger-of (correct-is _ _ _ (surveyed _ _ _ (sym (c .before .before .before .before .before .before .before .survey .ensures) ∙ c .before .before .before .before .before .enum-told .given .1) .0) _ _ ∙ changing-full _ _ _ (sym (c .before .before .before .is-full .ensures) ∙ c .before .before .if1 .taken) Any _ _ _)))
+returns-2 c = (ap L.Refused (c .full-refusal .ensures) ∙ answer-of (correct-is _ _ _ (surveyed _ _ _ (sym (c .before .before .before .before .before .before .before .survey .ensures) ∙ c .before .before .before .before .before .enum-told .given .1) .0) _ _ ∙ changing-full _ _ _ _ (sym (c .before .before .before .is-full .ensures) ∙ c .before .before .if1 .taken) Any _ _ _), (held-of (correct-is _ _ _ (surveyed _ _ _ (sym (c .before .before .before .before .before .before .before .survey .ensures) ∙ c .before .before .before .before .before .enum-told .given .1) .0) _ _ ∙ changing-full _ _ _ _ (sym (c .before .before .before .is-full .ensures) ∙ c .before .before .if1 .taken) Any _ _ _), ledger-of (correct-is _ _ _ (surveyed _ _ _ (sym (c .before .before .before .before .before .before .before .survey .ensures) ∙ c .before .before .before .before .before .enum-told .given .1) .0) _ _ ∙ changing-full _ _ _ _ (sym (c .before .before .before .is-full .ensures) ∙ c .before .before .if1 .taken) Any _ _ _)))
 
 replace-requires : tie.Need-replace-requires
 replace-requires c κs = search needs
@@ -73,7 +73,7 @@ same-length-6 : tie.Need-same-length-6
 same-length-6 c = search needs
 
 returns-3 : tie.Need-returns-3
-returns-3 c = (ap L.Refused (c .replace-refusal .ensures ∙ ap replaceRefusal (c .before .enum-told3 .given .1)) ∙ answer-of (correct-is _ _ _ (surveyed _ _ _ (sym (c .before .before .before .before .before .before .before .before .before .before .before .before .survey .ensures) ∙ c .before .before .before .before .before .before .before .before .before .before .enum-told .given .1) .0) _ _ ∙ changing-refused _ _ _ (sym (c .before .before .before .before .before .before .before .before .is-full .ensures) ∙ c .before .before .before .before .before .before .before .if1 .left) Any _ _ _ _ (sym (c .before .before .before .before .before .replace .ensures .0) ∙ c .before .enum-told3 .given .1)), (c .before .before .before .before .before .replace .ensures .1 ∙ held-of (correct-is _ _ _ (surveyed _ _ _ (sym (c .before .before .before .before .before .before .before .before .before .before .before .before .survey .ensures) ∙ c .before .before .before .before .before .before .before .before .before .before .enum-told .given .1) .0) _ _ ∙ changing-refused _ _ _ (sym (c .before .before .before .before .before .before .before .before .is-full .ensures) ∙ c .before .before .before .before .before .before .before .if1 .left) Any _ _ _ _ (sym (c .before .before .before .before .before .replace .ensures .0) ∙ c .before .enum-told3 .given .1)), ledger-of (correct-is _ _ _ (surveyed _ _ _ (sym (c .before .before .before .before .before .before .before .before .before .before .before .before .survey .ensures) ∙ c .before .before .before .before .before .before .before .before .before .before .enum-told .given .1) .0) _ _ ∙ changing-refused _ _ _ (sym (c .before .before .before .before .before .before .before .before .is-full .ensures) ∙ c .before .before .before .before .before .before .before .if1 .left) Any _ _ _ _ (sym (c .before .before .before .before .before .replace .ensures .0) ∙ c .before .enum-told3 .given .1))))
+returns-3 c = (ap L.Refused (c .replace-refusal .ensures ∙ ap replaceRefusal (c .before .enum-told3 .given .1)) ∙ answer-of (correct-is _ _ _ (surveyed _ _ _ (sym (c .before .before .before .before .before .before .before .before .before .before .before .before .survey .ensures) ∙ c .before .before .before .before .before .before .before .before .before .before .enum-told .given .1) .0) _ _ ∙ changing-refused _ _ _ _ (sym (c .before .before .before .before .before .before .before .before .is-full .ensures) ∙ c .before .before .before .before .before .before .before .if1 .left) Any _ _ _ _ (sym (c .before .before .before .before .before .replace .ensures .0) ∙ c .before .enum-told3 .given .1)), (c .before .before .before .before .before .replace .ensures .1 ∙ held-of (correct-is _ _ _ (surveyed _ _ _ (sym (c .before .before .before .before .before .before .before .before .before .before .before .before .survey .ensures) ∙ c .before .before .before .before .before .before .before .before .before .before .enum-told .given .1) .0) _ _ ∙ changing-refused _ _ _ _ (sym (c .before .before .before .before .before .before .before .before .is-full .ensures) ∙ c .before .before .before .before .before .before .before .if1 .left) Any _ _ _ _ (sym (c .before .before .before .before .before .replace .ensures .0) ∙ c .before .enum-told3 .given .1)), ledger-of (correct-is _ _ _ (surveyed _ _ _ (sym (c .before .before .before .before .before .before .before .before .before .before .before .before .survey .ensures) ∙ c .before .before .before .before .before .before .before .before .before .before .enum-told .given .1) .0) _ _ ∙ changing-refused _ _ _ _ (sym (c .before .before .before .before .before .before .before .before .is-full .ensures) ∙ c .before .before .before .before .before .before .before .if1 .left) Any _ _ _ _ (sym (c .before .before .before .before .before .replace .ensures .0) ∙ c .before .enum-told3 .given .1))))
 
 correction-line-requires : tie.Need-correction-line-requires
 correction-line-requires c κs = search needs
@@ -88,7 +88,7 @@ same-length-8 : tie.Need-same-length-8
 same-length-8 c = search needs
 
 returns-4 : tie.Need-returns-4
-returns-4 c = (c .before .before .append .ensures .0 ∙ appended-answer _ _ (sym (c .before .before .before .before .before .before .before .before .before .before .before .before .before .is-full .ensures) ∙ c .before .before .before .before .before .before .before .before .before .before .before .before .if1 .left) ∙ answer-of (correct-is _ _ _ (surveyed _ _ _ (sym (c .before .before .before .before .before .before .before .before .before .before .before .before .before .before .before .before .before .survey .ensures) ∙ c .before .before .before .before .before .before .before .before .before .before .before .before .before .before .before .enum-told .given .1) .0) _ _ ∙ changing-done _ _ _ (sym (c .before .before .before .before .before .before .before .before .before .before .before .before .before .is-full .ensures) ∙ c .before .before .before .before .before .before .before .before .before .before .before .before .if1 .left) Any _ _ _ _ (sym (c .before .before .before .before .before .before .before .before .before .before .replace .ensures .0) ∙ c .before .before .before .before .before .before .replaced .given .1)), (c .before .before .before .before .before .before .before .before .before .before .replace .ensures .1 ∙ held-of (correct-is _ _ _ (surveyed _ _ _ (sym (c .before .before .before .before .before .before .before .before .before .before .before .before .before .before .before .before .before .survey .ensures) ∙ c .before .before .before .before .before .before .before .before .before .before .before .before .before .before .before .enum-told .given .1) .0) _ _ ∙ changing-done _ _ _ (sym (c .before .before .before .before .before .before .before .before .before .before .before .before .before .is-full .ensures) ∙ c .before .before .before .before .before .before .before .before .before .before .before .before .if1 .left) Any _ _ _ _ (sym (c .before .before .before .before .before .before .before .before .before .before .replace .ensures .0) ∙ c .before .before .before .before .before .before .replaced .given .1)), c .before .before .append .ensures .1 ∙ appended-bytes _ _ _ (sym (c .before .before .before .before .before .before .before .before .before .before .before .before .before .is-full .ensures) ∙ c .before .before .before .before .before .before .before .before .before .before .before .before .if1 .left) ∙ ap (withLine _ _) (c .before .before .before .correction-line .ensures) ∙ ledger-of (correct-is _ _ _ (surveyed _ _ _ (sym (c .before .before .before .before .before .before .before .before .before .before .before .before .before .before .before .before .before .survey .ensures) ∙ c .before .before .before .before .before .before .before .before .before .before .before .before .before .before .before .enum-told .given .1) .0) _ _ ∙ changing-done _ _ _ (sym (c .before .before .before .before .before .before .before .before .before .before .before .before .before .is-full .ensures) ∙ c .before .before .before .before .before .before .before .before .before .before .before .before .if1 .left) Any _ _ _ _ (sym (c .before .before .before .before .before .before .before .before .before .before .replace .ensures .0) ∙ c .before .before .before .before .before .before .replaced .given .1))))
+returns-4 c = (c .before .before .append .ensures .0 ∙ appended-answer _ _ (sym (c .before .before .before .before .before .before .before .before .before .before .before .before .before .is-full .ensures) ∙ c .before .before .before .before .before .before .before .before .before .before .before .before .if1 .left) ∙ answer-of (correct-is _ _ _ (surveyed _ _ _ (sym (c .before .before .before .before .before .before .before .before .before .before .before .before .before .before .before .before .before .survey .ensures) ∙ c .before .before .before .before .before .before .before .before .before .before .before .before .before .before .before .enum-told .given .1) .0) _ _ ∙ changing-done _ _ _ _ (sym (c .before .before .before .before .before .before .before .before .before .before .before .before .before .is-full .ensures) ∙ c .before .before .before .before .before .before .before .before .before .before .before .before .if1 .left) Any _ _ _ _ (sym (c .before .before .before .before .before .before .before .before .before .before .replace .ensures .0) ∙ c .before .before .before .before .before .before .replaced .given .1)), (c .before .before .before .before .before .before .before .before .before .before .replace .ensures .1 ∙ held-of (correct-is _ _ _ (surveyed _ _ _ (sym (c .before .before .before .before .before .before .before .before .before .before .before .before .before .before .before .before .before .survey .ensures) ∙ c .before .before .before .before .before .before .before .before .before .before .before .before .before .before .before .enum-told .given .1) .0) _ _ ∙ changing-done _ _ _ _ (sym (c .before .before .before .before .before .before .before .before .before .before .before .before .before .is-full .ensures) ∙ c .before .before .before .before .before .before .before .before .before .before .before .before .if1 .left) Any _ _ _ _ (sym (c .before .before .before .before .before .before .before .before .before .before .replace .ensures .0) ∙ c .before .before .before .before .before .before .replaced .given .1)), c .before .before .append .ensures .1 ∙ appended-bytes _ _ _ (sym (c .before .before .before .before .before .before .before .before .before .before .before .before .before .is-full .ensures) ∙ c .before .before .before .before .before .before .before .before .before .before .before .before .if1 .left) ∙ ap (withLine _ _) (c .before .before .before .correction-line .ensures) ∙ ledger-of (correct-is _ _ _ (surveyed _ _ _ (sym (c .before .before .before .before .before .before .before .before .before .before .before .before .before .before .before .before .before .survey .ensures) ∙ c .before .before .before .before .before .before .before .before .before .before .before .before .before .before .before .enum-told .given .1) .0) _ _ ∙ changing-done _ _ _ _ (sym (c .before .before .before .before .before .before .before .before .before .before .before .before .before .is-full .ensures) ∙ c .before .before .before .before .before .before .before .before .before .before .before .before .if1 .left) Any _ _ _ _ (sym (c .before .before .before .before .before .before .before .before .before .before .replace .ensures .0) ∙ c .before .before .before .before .before .before .replaced .given .1))))
 
 pub correct-pixel-spec : {M : Type 1} → statement M
 correct-pixel-spec =

@@ -29,7 +29,7 @@ same-length-2 : tie.Need-same-length-2
 same-length-2 c = search needs
 
 returns : tie.Need-returns
-returns c = (ap L.Refused (c .full-refusal .ensures) ∙ answer-of (changing-full _ _ _ (sym (c .before .before .before .is-full .ensures) ∙ c .before .before .if1 .taken) (Exactly _) _ _ _), (held-of (changing-full _ _ _ (sym (c .before .before .before .is-full .ensures) ∙ c .before .before .if1 .taken) (Exactly _) _ _ _), ledger-of (changing-full _ _ _ (sym (c .before .before .before .is-full .ensures) ∙ c .before .before .if1 .taken) (Exactly _) _ _ _)))
+returns c = (ap L.Refused (c .full-refusal .ensures) ∙ answer-of (changing-full _ _ _ _ (sym (c .before .before .before .is-full .ensures) ∙ c .before .before .if1 .taken) (Exactly _) _ _ _), (held-of (changing-full _ _ _ _ (sym (c .before .before .before .is-full .ensures) ∙ c .before .before .if1 .taken) (Exactly _) _ _ _), ledger-of (changing-full _ _ _ _ (sym (c .before .before .before .is-full .ensures) ∙ c .before .before .if1 .taken) (Exactly _) _ _ _)))
 
 replace-requires : tie.Need-replace-requires
 replace-requires c κs = search needs
@@ -50,7 +50,7 @@ same-length-4 : tie.Need-same-length-4
 same-length-4 c = search needs
 
 returns-2 : tie.Need-returns-2
-returns-2 c = (ap L.Refused (c .replace-refusal .ensures ∙ ap replaceRefusal (c .before .enum-told2 .given .1)) ∙ answer-of (changing-refused _ _ _ (sym (c .before .before .before .before .before .before .before .before .is-full .ensures) ∙ c .before .before .before .before .before .before .before .if1 .left) (Exactly _) _ _ _ _ (sym (c .before .before .before .before .before .replace .ensures .0) ∙ c .before .enum-told2 .given .1)), (c .before .before .before .before .before .replace .ensures .1 ∙ held-of (changing-refused _ _ _ (sym (c .before .before .before .before .before .before .before .before .is-full .ensures) ∙ c .before .before .before .before .before .before .before .if1 .left) (Exactly _) _ _ _ _ (sym (c .before .before .before .before .before .replace .ensures .0) ∙ c .before .enum-told2 .given .1)), ledger-of (changing-refused _ _ _ (sym (c .before .before .before .before .before .before .before .before .is-full .ensures) ∙ c .before .before .before .before .before .before .before .if1 .left) (Exactly _) _ _ _ _ (sym (c .before .before .before .before .before .replace .ensures .0) ∙ c .before .enum-told2 .given .1))))
+returns-2 c = (ap L.Refused (c .replace-refusal .ensures ∙ ap replaceRefusal (c .before .enum-told2 .given .1)) ∙ answer-of (changing-refused _ _ _ _ (sym (c .before .before .before .before .before .before .before .before .is-full .ensures) ∙ c .before .before .before .before .before .before .before .if1 .left) (Exactly _) _ _ _ _ (sym (c .before .before .before .before .before .replace .ensures .0) ∙ c .before .enum-told2 .given .1)), (c .before .before .before .before .before .replace .ensures .1 ∙ held-of (changing-refused _ _ _ _ (sym (c .before .before .before .before .before .before .before .before .is-full .ensures) ∙ c .before .before .before .before .before .before .before .if1 .left) (Exactly _) _ _ _ _ (sym (c .before .before .before .before .before .replace .ensures .0) ∙ c .before .enum-told2 .given .1)), ledger-of (changing-refused _ _ _ _ (sym (c .before .before .before .before .before .before .before .before .is-full .ensures) ∙ c .before .before .before .before .before .before .before .if1 .left) (Exactly _) _ _ _ _ (sym (c .before .before .before .before .before .replace .ensures .0) ∙ c .before .enum-told2 .given .1))))
 
 withdrawal-line-requires : tie.Need-withdrawal-line-requires
 withdrawal-line-requires c κs = search needs
@@ -65,7 +65,7 @@ same-length-6 : tie.Need-same-length-6
 same-length-6 c = search needs
 
 returns-3 : tie.Need-returns-3
-returns-3 c = (c .before .before .append .ensures .0 ∙ appended-answer _ _ (sym (c .before .before .before .before .before .before .before .before .before .before .before .before .is-full .ensures) ∙ c .before .before .before .before .before .before .before .before .before .before .before .if1 .left) ∙ answer-of (changing-done _ _ _ (sym (c .before .before .before .before .before .before .before .before .before .before .before .before .is-full .ensures) ∙ c .before .before .before .before .before .before .before .before .before .before .before .if1 .left) (Exactly _) _ _ _ _ (sym (c .before .before .before .before .before .before .before .before .before .replace .ensures .0) ∙ c .before .before .before .before .before .enum-told .given .1)), (c .before .before .before .before .before .before .before .before .before .replace .ensures .1 ∙ held-of (changing-done _ _ _ (sym (c .before .before .before .before .before .before .before .before .before .before .before .before .is-full .ensures) ∙ c .before .before .before .before .before .before .before .before .before .before .before .if1 .left) (Exactly _) _ _ _ _ (sym (c .before .before .before .before .before .before .before .before .before .replace .ensures .0) ∙ c .before .before .before .before .before .enum-told .given .1)), c .before .before .append .ensures .1 ∙ appended-bytes _ _ _ (sym (c .before .before .before .before .before .before .before .before .before .before .before .before .is-full .ensures) ∙ c .before .before .before .before .before .before .before .before .before .before .before .if1 .left) ∙ ap (withLine _ _) (c .before .before .before .withdrawal-line .ensures) ∙ ledger-of (changing-done _ _ _ (sym (c .before .before .before .before .before .before .before .before .before .before .before .before .is-full .ensures) ∙ c .before .before .before .before .before .before .before .before .before .before .before .if1 .left) (Exactly _) _ _ _ _ (sym (c .before .before .before .before .before .before .before .before .before .replace .ensures .0) ∙ c .before .before .before .before .before .enum-told .given .1))))
+returns-3 c = (c .before .before .append .ensures .0 ∙ appended-answer _ _ (sym (c .before .before .before .before .before .before .before .before .before .before .before .before .is-full .ensures) ∙ c .before .before .before .before .before .before .before .before .before .before .before .if1 .left) ∙ answer-of (changing-done _ _ _ _ (sym (c .before .before .before .before .before .before .before .before .before .before .before .before .is-full .ensures) ∙ c .before .before .before .before .before .before .before .before .before .before .before .if1 .left) (Exactly _) _ _ _ _ (sym (c .before .before .before .before .before .before .before .before .before .replace .ensures .0) ∙ c .before .before .before .before .before .enum-told .given .1)), (c .before .before .before .before .before .before .before .before .before .replace .ensures .1 ∙ held-of (changing-done _ _ _ _ (sym (c .before .before .before .before .before .before .before .before .before .before .before .before .is-full .ensures) ∙ c .before .before .before .before .before .before .before .before .before .before .before .if1 .left) (Exactly _) _ _ _ _ (sym (c .before .before .before .before .before .before .before .before .before .replace .ensures .0) ∙ c .before .before .before .before .before .enum-told .given .1)), c .before .before .append .ensures .1 ∙ appended-bytes _ _ _ (sym (c .before .before .before .before .before .before .before .before .before .before .before .before .is-full .ensures) ∙ c .before .before .before .before .before .before .before .before .before .before .before .if1 .left) ∙ ap (withLine _ _) (c .before .before .before .withdrawal-line .ensures) ∙ ledger-of (changing-done _ _ _ _ (sym (c .before .before .before .before .before .before .before .before .before .before .before .before .is-full .ensures) ∙ c .before .before .before .before .before .before .before .before .before .before .before .if1 .left) (Exactly _) _ _ _ _ (sym (c .before .before .before .before .before .before .before .before .before .replace .ensures .0) ∙ c .before .before .before .before .before .enum-told .given .1))))
 
 pub withdraw-correction-spec : {M : Type 1} → statement M
 withdraw-correction-spec =

@@ -32,6 +32,12 @@ withdraw-requires c κs = search needs
 ledger-reply-requires-3 : tie.Need-ledger-reply-requires-3
 ledger-reply-requires-3 c κs = search needs
 
+amend-requires : tie.Need-amend-requires
+amend-requires c κs = search needs
+
+ledger-reply-requires-4 : tie.Need-ledger-reply-requires-4
+ledger-reply-requires-4 c κs = search needs
+
 may-purge-requires : tie.Need-may-purge-requires
 may-purge-requires c κs = search needs
 
@@ -68,9 +74,19 @@ returns-3 c = (rw (c .before .before .before .before .before .before .before .be
 same-length-6 : tie.Need-same-length-6
 same-length-6 c = search needs
 
+same-length-7 : tie.Need-same-length-7
+same-length-7 c = search needs
+
 returns-4 : tie.Need-returns-4
 unfolding callOf step
-returns-4 c = (rw (ne-eqb _ 0 (c .before .before .before .match .rest .0 .0 .1), ne-eqb _ 1 (c .before .before .before .match .rest .0 .1), ne-eqb _ 2 (c .before .before .before .match .rest .1)) (c .purge-reply .ensures ∙ ap (purgeReply _) (c .before .may-purge .ensures)), (rw (ne-eqb _ 0 (c .before .before .before .match .rest .0 .0 .1), ne-eqb _ 1 (c .before .before .before .match .rest .0 .1), ne-eqb _ 2 (c .before .before .before .match .rest .1)), rw (ne-eqb _ 0 (c .before .before .before .match .rest .0 .0 .1), ne-eqb _ 1 (c .before .before .before .match .rest .0 .1), ne-eqb _ 2 (c .before .before .before .match .rest .1))))
+returns-4 c = (rw (c .before .before .before .before .before .before .before .before .match .keys4) (c .ledger-reply4 .ensures ∙ ap (ledgerReply _) (c .before .before .before .before .before .amend .ensures .0)), (rw (c .before .before .before .before .before .before .before .before .match .keys4) (c .before .before .before .before .before .amend .ensures .1 .0), rw (c .before .before .before .before .before .before .before .before .match .keys4) (c .before .before .before .before .before .amend .ensures .1 .1)))
+
+same-length-8 : tie.Need-same-length-8
+same-length-8 c = search needs
+
+returns-5 : tie.Need-returns-5
+unfolding callOf step
+returns-5 c = (rw (ne-eqb _ 0 (c .before .before .before .match .rest .0 .0 .0 .1), ne-eqb _ 1 (c .before .before .before .match .rest .0 .0 .1), ne-eqb _ 2 (c .before .before .before .match .rest .0 .1), ne-eqb _ 3 (c .before .before .before .match .rest .1)) (c .purge-reply .ensures ∙ ap (purgeReply _) (c .before .may-purge .ensures)), (rw (ne-eqb _ 0 (c .before .before .before .match .rest .0 .0 .0 .1), ne-eqb _ 1 (c .before .before .before .match .rest .0 .0 .1), ne-eqb _ 2 (c .before .before .before .match .rest .0 .1), ne-eqb _ 3 (c .before .before .before .match .rest .1)), rw (ne-eqb _ 0 (c .before .before .before .match .rest .0 .0 .0 .1), ne-eqb _ 1 (c .before .before .before .match .rest .0 .0 .1), ne-eqb _ 2 (c .before .before .before .match .rest .0 .1), ne-eqb _ 3 (c .before .before .before .match .rest .1))))
 
 pub make-call-spec : {M : Type 1} → statement M
 make-call-spec =
@@ -82,6 +98,8 @@ make-call-spec =
     ledger-reply-requires-2
     withdraw-requires
     ledger-reply-requires-3
+    amend-requires
+    ledger-reply-requires-4
     may-purge-requires
     purge-reply-requires
     same-length
@@ -93,4 +111,7 @@ make-call-spec =
     same-length-5
     returns-3
     same-length-6
-    returns-4)
+    same-length-7
+    returns-4
+    same-length-8
+    returns-5)
