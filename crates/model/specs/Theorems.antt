@@ -25,7 +25,7 @@ pub record TwoSteps (o : Opening) (m : Model) (pixel count : ℕ) : Type 0 where
 abbrev pub AmendIsTwo : Opening → Type 0
 AmendIsTwo o =
     (pixel old count lines : ℕ) (es : List Entry) → pixel < length (o .pixels)
-    → (let m = record { stack = corrected pixel old ∷ es; lines = lines } in modelStep o (amend count) m .reply .answer ≡ accepted → TwoSteps o m pixel count)
+    → (let m : Model = record { stack = corrected pixel old ∷ es; lines = lines } in modelStep o (amend count) m .reply .answer ≡ accepted → TwoSteps o m pixel count)
 
 -- On real bytes: where amending is accepted, held buffer, ledger and number of lines after it are those after a withdrawal and then a correction of the
 -- last standing line's pixel.

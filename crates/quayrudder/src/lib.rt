@@ -35,7 +35,7 @@ ghost use Rattle.dtrek_image.specs.DtrekImage.{dtrekAnswer, dtrekPixels};
 ghost use Rattle.dtrek_report.specs.Report.{dtrekReadResult, dtrekReport};
 ghost use Rattle.dtrek_report.specs.Item.{dtrekItem};
 ghost use Rattle.archive.specs.Open.{openAnswer, openPixels, openHeld};
-ghost use Rattle.archive.specs.Calls.{correctOutcome, withdrawOutcome};
+ghost use Rattle.archive.specs.Calls.{correctOutcome, withdrawOutcome, amendOutcome};
 ghost use Rattle.quayrudder.specs.Answers.{readResult, asForm, askedForm, writeResult, notOpened, openResult, ledgerResult, purgeResult, date, listResult, marReadResult, valueResult, marEntryResult};
 
 // refusal is 0 where the call is accepted. Every field that a case does not name is 0.
@@ -344,6 +344,21 @@ pub extern "C" fn qr_withdraw(held: &mut [u8], ledger: &mut [u8], lines: u64) ->
     ensures { λ _. ⌜ now (ledger .exit) ≡ withdrawOutcome (now (held .entry)) (now (ledger .entry)) lines .ledger ⌝ }
 {
     ledger_result(lines, archive::withdraw(held, ledger, lines))
+}
+
+// Takes the last standing line back, a correction, and corrects its pixel to another count.
+#[no_mangle]
+pub extern "C" fn qr_amend(
+    held: &mut [u8],
+    ledger: &mut [u8],
+    lines: u64,
+    count: u32,
+) -> LedgerResult
+    ensures { λ r. ⌜ r ≡ ledgerResult lines (amendOutcome (now (held .entry)) (now (ledger .entry)) lines count .answer) ⌝ }
+    ensures { λ _. ⌜ now (held .exit) ≡ amendOutcome (now (held .entry)) (now (ledger .entry)) lines count .held ⌝ }
+    ensures { λ _. ⌜ now (ledger .exit) ≡ amendOutcome (now (held .entry)) (now (ledger .entry)) lines count .ledger ⌝ }
+{
+    ledger_result(lines, archive::amend(held, ledger, lines, count))
 }
 
 // Appends a keep line.

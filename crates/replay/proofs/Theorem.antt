@@ -29,16 +29,6 @@ call-counted kind a b c h = go (eqb kind 0) (eqb kind 1) (eqb kind 2) (eqb kind 
     go false false false true = h
     go false false false false = tt
 
-all-counted : (kind a b c : ℕ) → b < 4294967296 → Counted (callOf kind a b c)
-unfolding callOf
-call-counted kind a b c h = go (eqb kind 0) (eqb kind 1) (eqb kind 2)
-  where
-    go : (p q r : Bool) → Counted (if_then_else_ p (correct a b) (if_then_else_ q (keep (dateOf a b c)) (if_then_else_ r withdraw (mayPurge (dateOf a b c)))))
-    go true q r = h
-    go false true r = tt
-    go false false true = tt
-    go false false false = tt
-
 all-counted : (n : ℕ) (t : List ℕ) → ((i : ℕ) → getD t i 0 < 4294967296) → AllCounted (callsFrom n t)
 unfolding callsFrom AllCounted
 all-counted zero t h = tt
