@@ -1,4 +1,4 @@
-/* Times a correction and its withdrawal on a held frame against plain C's reading of the same frame and memcpy of the held bytes: in turn,
+/* Times a correction, its amending and its withdrawal on a held frame against plain C's reading of the same frame and memcpy of the held bytes: in turn,
    best of several. */
 #include "frames.h"
 #include "quayrudder.h"
@@ -6,7 +6,7 @@
 #include <stdlib.h>
 #include <string.h>
 
-enum { ROUNDS = 7, ROOM = 64, LINES = 2 };
+enum { ROUNDS = 7, ROOM = 64, LINES = 4 };
 
 typedef struct {
     uint8_t *bytes, *expected, ledger[16 * LINES];
@@ -25,29 +25,35 @@ static int correct(held *h, size_t pixel, uint32_t count) {
     return (int)qr_correct(h->bytes, h->length, h->ledger, sizeof h->ledger, 0, pixel, count).refusal;
 }
 
-static int withdraw(held *h) { return (int)qr_withdraw(h->bytes, h->length, h->ledger, sizeof h->ledger, 1).refusal; }
+static int amend(held *h, uint32_t count) { return (int)qr_amend(h->bytes, h->length, h->ledger, sizeof h->ledger, 1, count).refusal; }
 
-/* A count of the four-byte table goes in and comes out again, so that the tables grow and shrink. */
+static int withdraw(held *h) { return (int)qr_withdraw(h->bytes, h->length, h->ledger, sizeof h->ledger, 3).refusal; }
+
+/* A count of the four-byte table goes in, becomes the next one and comes out again, so that the tables grow and shrink. */
 static void row(const frame *f, held *h, uint32_t *scratch, const char *name, unsigned side, const char *place, size_t pixel) {
     size_t n = f->plain.pixels;
     uint32_t old = h->px[pixel], count = f->plain.baseline + 70000;
-    double best[5] = { 1e9, 1e9, 1e9, 1e9, 1e9 };
+    const uint32_t after[] = { 0, 0, count, count + 1, old };
+    double best[6] = { 1e9, 1e9, 1e9, 1e9, 1e9, 1e9 };
     int repeat = side <= 1024 ? 8 : 1, wrong = 0;
     for (int round = 0; round < ROUNDS * repeat; round++) {
-        for (int who = 0; who < 5; who++) {
+        for (int who = 0; who < 6; who++) {
             double t = now();
             if (who < 2) wrong |= plain(who, 100, f, scratch);
             else if (who == 2) wrong |= correct(h, pixel, count);
-            else if (who == 3) wrong |= withdraw(h);
+            else if (who == 3) wrong |= amend(h, count + 1);
+            else if (who == 4) wrong |= withdraw(h);
             else memcpy(h->expected, h->bytes, h->length);
             t = now() - t;
             if (t < best[who]) best[who] = t;
-            if (round == 0 && (who == 2 || who == 3)) h->px[pixel] = who == 2 ? count : old, wrong |= !as_written(f, h);
+            if (round == 0 && who >= 2 && who <= 4) h->px[pixel] = after[who], wrong |= !as_written(f, h);
         }
     }
     double faster = best[0] < best[1] ? best[0] : best[1];
-    printf("| %s | %4u | %s | %6.3f | %6.3f | %6.3f | %6.3f | %6.3f | %5.2f | %5.2f |%s\n", name, side, place, best[0] * 1e9 / n,
-           best[1] * 1e9 / n, best[2] * 1e9 / n, best[3] * 1e9 / n, best[4] * 1e9 / n, best[2] / faster, best[3] / faster, wrong ? " WRONG" : "");
+    printf("| %s | %4u | %s | %6.3f | %6.3f |", name, side, place, best[0] * 1e9 / n, best[1] * 1e9 / n);
+    for (int who = 2; who < 6; who++) printf(" %6.3f |", best[who] * 1e9 / n);
+    for (int who = 2; who < 5; who++) printf(" %5.2f |", best[who] / faster);
+    puts(wrong ? " WRONG" : "");
     fflush(stdout);
     if (wrong) exit(1);
 }
@@ -67,8 +73,8 @@ static void form(unsigned side, int width, int under_width) {
 }
 
 int main(void) {
-    puts("| held frame | side | pixel | reading, gcc -O3, ns/pixel | clang -O3 | correction | withdrawal | memcpy of the held bytes | correction to the faster | withdrawal |");
-    puts("|---|---|---|---|---|---|---|---|---|---|");
+    puts("| held frame | side | pixel | reading, gcc -O3, ns/pixel | clang -O3 | correction | amending | withdrawal | memcpy of the held bytes | correction to the faster | amending | withdrawal |");
+    puts("|---|---|---|---|---|---|---|---|---|---|---|---|");
     for (unsigned side = 1024; side <= 4096; side *= 4)
         for (int width = 1; width <= 4; width *= 2)
             for (int under_width = 0; under_width <= 2; under_width++) form(side, width, under_width);

@@ -8,6 +8,7 @@ import matplotlib.pyplot as pyplot  # noqa: E402
 GCC, CLANG = ("plain C, gcc -O3", "#9a6324", "v"), ("plain C, clang -O3", "#e6a23c", "^")
 OURS, COPY, FABIO = ("quayrudder", "#1f4e9e", "o"), ("memcpy", "#888888", "|"), ("FabIO", "#b3262e", "s")
 CORRECT, WITHDRAW = ("quayrudder, correction", "#1f4e9e", "o"), ("quayrudder, withdrawal", "#3aa6a0", "D")
+AMEND = ("quayrudder, amending", "#7b4ea3", "P")
 
 
 def rows(table, keep):
@@ -47,7 +48,7 @@ def frames(axes, title, word, tables, name):
 def held(axes, tables):
     found = rows(tables["held"], lambda cells: cells[1] == "1024" and cells[2] == "middle")
     column = lambda index: [float(cells[index]) for cells in found]
-    series = [(GCC, column(3)), (CLANG, column(4)), (CORRECT, column(5)), (WITHDRAW, column(6)), (COPY, column(7))]
+    series = [(GCC, column(3)), (CLANG, column(4)), (CORRECT, column(5)), (AMEND, column(6)), (WITHDRAW, column(7)), (COPY, column(8))]
     panel(axes, "held frames, side 1024, middle pixel, beside reading: ns/pixel", [cells[0] for cells in found], series)
 
 

@@ -42,7 +42,8 @@ def part(lines, start, column, mark):
 
 
 def held_part(lines):
-    text = ["Correction: " + summary(lines[2:], 8, 1.5), "Withdrawal: " + summary(lines[2:], 9, 1.5)]
+    calls = ("Correction", "Amending", "Withdrawal")
+    text = [f"{call}: {summary(lines[2:], 9 + at, 1.5)}" for at, call in enumerate(calls)]
     return "\n".join([*lines, "", *text])
 
 
