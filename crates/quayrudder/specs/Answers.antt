@@ -26,8 +26,8 @@ use Rattle.ledger.specs.declared.LedgerAnswer.{LedgerAnswer}
 use Rattle.ledger.specs.declared.LedgerAnswer.the-variants as L
 use Rattle.ledger.specs.declared.PurgeAnswer.{PurgeAnswer}
 use Rattle.ledger.specs.declared.PurgeAnswer.the-variants as P
-use Rattle.archive.specs.declared.OpenAnswer.{OpenAnswer}
-use Rattle.archive.specs.declared.OpenAnswer.the-variants as O
+use Rattle.opening.specs.declared.OpenAnswer.{OpenAnswer}
+use Rattle.opening.specs.declared.OpenAnswer.the-variants as O
 use Rattle.listing.specs.declared.ListAnswer.{ListAnswer}
 use Rattle.listing.specs.declared.ListAnswer.the-variants as I
 use Rattle.mar_entry.specs.declared.EntryValue.{EntryValue}

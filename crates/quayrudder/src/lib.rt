@@ -1,6 +1,5 @@
 // The C interface: the library's functions under fixed names, with answers as plain numbers.
 use answers::ReadResult;
-use archive::OpenAnswer;
 use calendar::Date;
 use dtrek_report::DtrekHeaderReport;
 use dtrek_report::DtrekItemReport;
@@ -16,6 +15,7 @@ use listing::ListAnswer;
 use mar_entry::EntryValue;
 use mar_entry::MarEntryAnswer;
 use mar_image::MarAnswer;
+use opening::OpenAnswer;
 use reader::ReadAnswer;
 use refusal::Refusal;
 use writer::AskedForm;
@@ -34,7 +34,7 @@ ghost use Rattle.dtrek_header.specs.DtrekHeader.{dtrekHeader};
 ghost use Rattle.dtrek_image.specs.DtrekImage.{dtrekAnswer, dtrekPixels};
 ghost use Rattle.dtrek_report.specs.Report.{dtrekReadResult, dtrekReport};
 ghost use Rattle.dtrek_report.specs.Item.{dtrekItem};
-ghost use Rattle.archive.specs.Open.{openAnswer, openPixels, openHeld};
+ghost use Rattle.opening.specs.Open.{openAnswer, openPixels, openHeld};
 ghost use Rattle.archive.specs.Calls.{correctOutcome, withdrawOutcome};
 ghost use Rattle.quayrudder.specs.Answers.{readResult, asForm, askedForm, writeResult, notOpened, openResult, ledgerResult, purgeResult, date, listResult, marReadResult, valueResult, marEntryResult};
 
@@ -302,7 +302,7 @@ pub extern "C" fn qr_open(
     ensures { λ _. ⌜ now (pixels .exit) ≡ openPixels (now (frame .entry)) (now (pixels .entry)) ⌝ }
     ensures { λ _. ⌜ now (held .exit) ≡ openHeld (now (frame .entry)) (now (pixels .entry)) (askedForm width underflow) (now (held .entry)) ⌝ }
 {
-    open_result(archive::open(frame, pixels, asked_form(width, underflow), held))
+    open_result(opening::open(frame, pixels, asked_form(width, underflow), held))
 }
 
 fn ledger_result(lines: u64, answer: LedgerAnswer) -> LedgerResult

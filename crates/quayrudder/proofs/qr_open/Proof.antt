@@ -5,7 +5,7 @@ use Rattle.quayrudder.proofs.qr_open.Statement.{statement}
 use Rattle.quayrudder.proofs.qr_open.Tie as tie
 use Rattle.quayrudder.proofs.qr_open.Reads as reads
 use Rattle.quayrudder.proofs.qr_open.Lts as lts
-use Rattle.archive.proofs.open.Reads as open-reads
+use Rattle.opening.proofs.open.Reads as open-reads
 use Rattle.quayrudder.proofs.asked_form.Reads as asked-form-reads
 use Rattle.quayrudder.proofs.open_result.Reads as open-result-reads
 

@@ -11,8 +11,8 @@ use Rattle.writer.specs.declared.AskedForm.{AskedForm}
 use Rattle.writer.specs.declared.WriteAnswer.{WriteAnswer}
 use Rattle.writer.specs.declared.WriteAnswer.the-variants as W
 use Rattle.writer.specs.Writer.{writeAnswer, writeBytes}
-use Rattle.archive.specs.declared.OpenAnswer.{OpenAnswer}
-use Rattle.archive.specs.declared.OpenAnswer.the-variants.{Opened, NotRead, NotWritten}
+use Rattle.opening.specs.declared.OpenAnswer.{OpenAnswer}
+use Rattle.opening.specs.declared.OpenAnswer.the-variants.{Opened, NotRead, NotWritten}
 
 abbrev pub readRefusal : ReadAnswer → Refusal
 readRefusal (R.Refused r) = r

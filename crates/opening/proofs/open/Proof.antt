@@ -1,9 +1,9 @@
-use Rattle.archive.specs.declared.OpenAnswer.the-variants.{NotRead, NotWritten}
-use Rattle.archive.specs.Open.{readRefusal, writeRefusal, openAnswer, openHeld}
+use Rattle.opening.specs.declared.OpenAnswer.the-variants.{NotRead, NotWritten}
+use Rattle.opening.specs.Open.{readRefusal, writeRefusal, openAnswer, openHeld}
 use mathlib.Core.Path.{ap, _∙_}
 use borrow.Author.Needs.{needs}
-use Rattle.archive.proofs.open.Statement.{statement}
-use Rattle.archive.proofs.open.Tie as tie
+use Rattle.opening.proofs.open.Statement.{statement}
+use Rattle.opening.proofs.open.Tie as tie
 
 read-requires : tie.Need-read-requires
 read-requires c κs = search needs
