@@ -1,3 +1,2 @@
-pub mod Open
 pub mod Calls
 pub mod Changes

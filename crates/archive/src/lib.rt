@@ -1,4 +1,4 @@
-// The held frame and its ledger: opening, correction, withdrawal and amending.
+// The held frame and its ledger: correction, withdrawal and amending.
 use calendar::Date;
 use canonical::Located;
 use ledger::Found;
@@ -6,90 +6,18 @@ use ledger::Kind;
 use ledger::LedgerAnswer;
 use ledger::Line;
 use ledger::SurveyAnswer;
-use reader::ReadAnswer;
 use refusal::Refusal;
 use replacement::Expected;
 use replacement::Replaced;
-use writer::AskedForm;
-use writer::WriteAnswer;
 ghost use Prim.Native.Nat.{_+_};
 ghost use mathlib.Core.Path.{_≡_};
 ghost use mathlib.Core.List.{[], _∷_};
-ghost use lib.ListN.{length};
 ghost use Rattle.ledger.specs.Ledger.{ledgerFull};
 ghost use Rattle.canonical.specs.Located.{located};
 ghost use Rattle.replacement.specs.declared.Expected.the-variants.{Exactly};
 ghost use Rattle.replacement.specs.Replace.{meets, replaceAnswer, replaceBytes};
 ghost use Rattle.archive.specs.Calls.{correctionLine, withdrawalLine, correctOutcome, withdrawOutcome, amendOutcome};
 ghost use Rattle.archive.specs.Changes.{heldRefusal, within32, fullRefusal, replaceRefusal, changing, amending, keepWithdrawn};
-ghost use Rattle.archive.specs.Open.{readRefusal, writeRefusal, openAnswer, openPixels, openHeld};
-
-// The frame read and the length of the frame held; or why there is none, with the frame read where only the writing is refused.
-pub enum OpenAnswer {
-    Opened {
-        rows: u32,
-        columns: u32,
-        end: u64,
-        length: u64,
-    },
-    NotRead(Refusal),
-    NotWritten {
-        rows: u32,
-        columns: u32,
-        end: u64,
-        refusal: Refusal,
-    },
-}
-
-// The refusal of an answer; an accepted one has none, and the answer then stands for nothing.
-fn read_refusal(answer: ReadAnswer) -> Refusal
-    ensures { λ r. ⌜ r ≡ readRefusal answer ⌝ }
-{
-    match answer {
-        ReadAnswer::Refused(r) => r,
-        ReadAnswer::Frame {
-            rows: _,
-            columns: _,
-            end: _,
-        } => Refusal::OutOfRange,
-    }
-}
-
-fn write_refusal(answer: WriteAnswer) -> Refusal
-    ensures { λ r. ⌜ r ≡ writeRefusal answer ⌝ }
-{
-    match answer {
-        WriteAnswer::Refused(r) => r,
-        WriteAnswer::Written { length: _ } => Refusal::OutOfRange,
-    }
-}
-
-// Reads a frame into the pixel array and writes it into the held buffer.
-pub fn open(frame: &[u8], pixels: &mut [u32], asked: AskedForm, held: &mut [u8]) -> OpenAnswer
-    ensures { λ r. ⌜ r ≡ openAnswer (now (frame .entry)) (now (pixels .entry)) asked (length (now (held .entry))) ⌝ }
-    ensures { λ _. ⌜ now (pixels .exit) ≡ openPixels (now (frame .entry)) (now (pixels .entry)) ⌝ }
-    ensures { λ _. ⌜ now (held .exit) ≡ openHeld (now (frame .entry)) (now (pixels .entry)) asked (now (held .entry)) ⌝ }
-{
-    let read = reader::read(frame, pixels);
-    let ReadAnswer::Frame { rows, columns, end } = read else {
-        return OpenAnswer::NotRead(read_refusal(read));
-    };
-    let written = writer::write(frame, pixels, asked, held);
-    let WriteAnswer::Written { length } = written else {
-        return OpenAnswer::NotWritten {
-            rows,
-            columns,
-            end,
-            refusal: write_refusal(written),
-        };
-    };
-    OpenAnswer::Opened {
-        rows,
-        columns,
-        end,
-        length,
-    }
-}
 
 // 19, or else the refusal that is due.
 fn held_refusal(held: &[u8], due: Refusal) -> Refusal

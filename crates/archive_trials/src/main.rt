@@ -4,7 +4,6 @@
 // after each one the answer, the number of lines, the held bytes and the ledger's bytes are compared with those of the plain model.
 // A row may go on: pixel 0 is corrected to 7, then h or l (held or ledger), a place and the text put there, the refusal that a
 // withdrawal must give, a pixel and the refusal that its correction must give. A row that starts with # is a heading.
-use archive::OpenAnswer;
 use calendar::Date;
 use layout::EntryAnswer;
 use layout::Form;
@@ -17,6 +16,7 @@ use ledger::PurgeAnswer;
 use libc::STDIN_FILENO;
 use libc::STDOUT_FILENO;
 use numeral::Number;
+use opening::OpenAnswer;
 use writer::AskedForm;
 use writer::WriteAnswer;
 ghost use Prim.Native.Nat.{_≤_};
@@ -1019,7 +1019,7 @@ fn opens(
     held: &mut [u8],
     model_held: &mut [u8],
 ) -> bool {
-    let answer = archive::open(frame, opened, asked, held);
+    let answer = opening::open(frame, opened, asked, held);
     let again = written(writer::write(frame, pixels, asked, model_held));
     both(is_opened(answer, again), same_bytes(held, model_held))
 }

@@ -21,8 +21,8 @@ use Rattle.ledger.specs.declared.Found.the-variants.{At}
 use Rattle.ledger.specs.Lines.{linesOf}
 use Rattle.ledger.specs.Standing.{lastStanding, anyLine}
 use Rattle.ledger.proofs.Appending.{foundLines}
-use Rattle.archive.specs.declared.OpenAnswer.the-variants.{Opened}
-use Rattle.archive.specs.Open.{openAnswer}
+use Rattle.opening.specs.declared.OpenAnswer.the-variants.{Opened}
+use Rattle.opening.specs.Open.{openAnswer}
 use Rattle.archive.specs.Calls.{correctionLine}
 use Rattle.model.specs.Model.{Call, correct, withdraw, amend, accepted, refused, Reply, Step, Ran, run, Entry, corrected, kept, Model, Opening, pixelsWith, refuse, accept, correctedBy, written, modelStep, linesFor, addedBy, linesAdded}
 use Rattle.model.specs.Run.{State, step, AllCounted}

@@ -14,8 +14,8 @@ use Rattle.ledger.specs.declared.Line.{Line}
 use Rattle.ledger.specs.Lines.{linesOf}
 use Rattle.ledger.specs.Standing.{standing}
 use Rattle.ledger.proofs.StandingLaws.{stack, standing-is}
-use Rattle.archive.specs.declared.OpenAnswer.the-variants.{Opened}
-use Rattle.archive.specs.Open.{openAnswer}
+use Rattle.opening.specs.declared.OpenAnswer.the-variants.{Opened}
+use Rattle.opening.specs.Open.{openAnswer}
 use Rattle.model.specs.Model.{Call, Ran, run, Entry, corrected, kept, Model, Opening, emptyModel, pixelsWith, modelPixels, modelStep, linesAdded, seenLine, seenEntry}
 use Rattle.model.specs.Run.{State, stateOf, step, openingOf, openedState, linesBytes, AllCounted}
 use Rattle.model.proofs.Appending.{ledgerWith, holds-none}

@@ -20,8 +20,8 @@ use Rattle.ledger.specs.Lines.{linesOf}
 use Rattle.ledger.specs.Standing.{keeps, standing}
 use Rattle.ledger.specs.Ledger.{keepLine, ledgerFull}
 use Rattle.ledger.proofs.StandingLaws.{standing-is}
-use Rattle.archive.specs.declared.OpenAnswer.the-variants.{Opened}
-use Rattle.archive.specs.Open.{openAnswer}
+use Rattle.opening.specs.declared.OpenAnswer.the-variants.{Opened}
+use Rattle.opening.specs.Open.{openAnswer}
 use Rattle.model.specs.Model.{Call, withdraw, mayPurge, accepted, refused, Reply, Step, Model, modelStep, run, Entry, corrected, kept, Opening, isFull, refuse, accept, askedOf, withdrawnFrom}
 use Rattle.model.specs.Run.{State, step, openingOf, openedState, Counted, AllCounted, isAccepted, lastKeepBefore}
 use Rattle.model.proofs.Held.{Given}

@@ -35,8 +35,8 @@ use Rattle.lists.specs.Bytes.{heldBytes}
 use Rattle.writer.specs.Writer.{Made, frame, refused, madeAs, madeBy, writerFrame, answerOf, outputOf, writeAnswer, writeBytes}
 use Rattle.readback.proofs.Sound.{opening}
 use Rattle.readback.proofs.Reading as reading
-use Rattle.archive.specs.declared.OpenAnswer.the-variants.{Opened}
-use Rattle.archive.specs.Open.{openBy, heldBy, openAnswer, openHeld}
+use Rattle.opening.specs.declared.OpenAnswer.the-variants.{Opened}
+use Rattle.opening.specs.Open.{openBy, heldBy, openAnswer, openHeld}
 use Rattle.model.specs.Model.{Opening}
 use Rattle.model.specs.Run.{openingOf}
 use Rattle.model.proofs.Held.{Pixels, Fits, Given}

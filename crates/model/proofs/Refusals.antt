@@ -17,8 +17,8 @@ use Rattle.writer.specs.Frame.{frameBytes}
 use Rattle.writer.specs.Writer.{frame, refused, base, underflowTooLarge, madeWith, answerOf, writerFrame}
 use Rattle.readback.specs.Written.{headerBytes, baseOf, baseNumber}
 use Rattle.readback.proofs.Facts as facts
-use Rattle.archive.specs.declared.OpenAnswer.the-variants.{Opened}
-use Rattle.archive.specs.Open.{openAnswer}
+use Rattle.opening.specs.declared.OpenAnswer.the-variants.{Opened}
+use Rattle.opening.specs.Open.{openAnswer}
 use Rattle.model.specs.Model.{Entry, Opening, pixelsWith, written}
 use Rattle.model.specs.Run.{openingOf}
 use Rattle.model.proofs.Held.{Given}

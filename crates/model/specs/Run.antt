@@ -21,7 +21,7 @@ use Rattle.calendar.specs.Calendar.{before}
 use Rattle.ledger.specs.Lines.{lineBytes}
 use Rattle.ledger.specs.Standing.{keeps}
 use Rattle.ledger.specs.Ledger.{keepAnswer, keepBytes, purgeAnswer}
-use Rattle.archive.specs.Open.{openHeld}
+use Rattle.opening.specs.Open.{openHeld}
 use Rattle.archive.specs.Calls.{Outcome, correctOutcome, withdrawOutcome, amendOutcome}
 use Rattle.model.specs.Model.{Call, correct, keep, withdraw, amend, mayPurge, Answer, accepted, refused, Step, Opening}
 

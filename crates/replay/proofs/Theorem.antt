@@ -10,8 +10,8 @@ use lib.Seq.{getD-drop}
 use Rattle.lists.specs.Choose.{if_then_else_}
 use Rattle.layout.specs.declared.Form.{Form}
 use Rattle.writer.specs.declared.AskedForm.the-variants as F
-use Rattle.archive.specs.declared.OpenAnswer.the-variants.{Opened}
-use Rattle.archive.specs.Open.{openAnswer, openHeld}
+use Rattle.opening.specs.declared.OpenAnswer.the-variants.{Opened}
+use Rattle.opening.specs.Open.{openAnswer, openHeld}
 use Rattle.model.specs.Model.{Call, correct, keep, withdraw, amend, mayPurge, run, modelStep, emptyModel}
 use Rattle.model.specs.Run.{step, openingOf, openedState, Counted, AllCounted}
 use Rattle.model.proofs.Demand3.{Agreement, demand3}

@@ -1,4 +1,4 @@
-use Rattle.quayrudder.specs.Answers.{ledgerResult}
+use Rattle.ledger_report.specs.Report.{ledgerResult}
 use mathlib.Core.Path.{ap, _∙_}
 use borrow.Author.Needs.{needs}
 use Rattle.quayrudder.proofs.qr_correct.Statement.{statement}
@@ -6,7 +6,7 @@ use Rattle.quayrudder.proofs.qr_correct.Tie as tie
 use Rattle.quayrudder.proofs.qr_correct.Reads as reads
 use Rattle.quayrudder.proofs.qr_correct.Lts as lts
 use Rattle.archive.proofs.correct.Reads as correct-reads
-use Rattle.quayrudder.proofs.ledger_result.Reads as ledger-result-reads
+use Rattle.ledger_report.proofs.ledger_result.Reads as ledger-result-reads
 
 correct-requires : tie.Need-correct-requires
 correct-requires c κs = search needs

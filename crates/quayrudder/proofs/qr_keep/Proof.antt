@@ -1,4 +1,4 @@
-use Rattle.quayrudder.specs.Answers.{ledgerResult}
+use Rattle.ledger_report.specs.Report.{ledgerResult}
 use mathlib.Core.Path.{ap, _∙_}
 use borrow.Author.Needs.{needs}
 use Rattle.quayrudder.proofs.qr_keep.Statement.{statement}

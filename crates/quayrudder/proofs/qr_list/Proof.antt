@@ -1,4 +1,4 @@
-use Rattle.quayrudder.specs.Answers.{listResult}
+use Rattle.ledger_report.specs.Report.{listResult}
 use mathlib.Core.Path.{ap, _∙_}
 use borrow.Author.Needs.{needs}
 use Rattle.quayrudder.proofs.qr_list.Statement.{statement}
@@ -6,7 +6,7 @@ use Rattle.quayrudder.proofs.qr_list.Tie as tie
 use Rattle.quayrudder.proofs.qr_list.Reads as reads
 use Rattle.quayrudder.proofs.qr_list.Lts as lts
 use Rattle.listing.proofs.list.Reads as list-reads
-use Rattle.quayrudder.proofs.list_result.Reads as list-result-reads
+use Rattle.ledger_report.proofs.list_result.Reads as list-result-reads
 
 list-requires : tie.Need-list-requires
 list-requires c κs = search needs

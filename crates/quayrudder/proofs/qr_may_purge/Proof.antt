@@ -1,4 +1,4 @@
-use Rattle.quayrudder.specs.Answers.{purgeResult}
+use Rattle.ledger_report.specs.Report.{purgeResult}
 use mathlib.Core.Path.{ap, _∙_}
 use borrow.Author.Needs.{needs}
 use Rattle.quayrudder.proofs.qr_may_purge.Statement.{statement}

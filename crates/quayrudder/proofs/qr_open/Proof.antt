@@ -1,13 +1,13 @@
-use Rattle.quayrudder.specs.Answers.{openResult}
+use Rattle.frame_report.specs.Report.{openResult}
 use mathlib.Core.Path.{ap, _∙_}
 use borrow.Author.Needs.{needs}
 use Rattle.quayrudder.proofs.qr_open.Statement.{statement}
 use Rattle.quayrudder.proofs.qr_open.Tie as tie
 use Rattle.quayrudder.proofs.qr_open.Reads as reads
 use Rattle.quayrudder.proofs.qr_open.Lts as lts
-use Rattle.archive.proofs.open.Reads as open-reads
-use Rattle.quayrudder.proofs.asked_form.Reads as asked-form-reads
-use Rattle.quayrudder.proofs.open_result.Reads as open-result-reads
+use Rattle.opening.proofs.open.Reads as open-reads
+use Rattle.frame_report.proofs.asked_form.Reads as asked-form-reads
+use Rattle.frame_report.proofs.open_result.Reads as open-result-reads
 
 asked-form-requires : tie.Need-asked-form-requires
 asked-form-requires c κs = search needs

@@ -1,4 +1,4 @@
-use Rattle.quayrudder.specs.Answers.{readResult}
+use Rattle.frame_report.specs.Report.{readResult}
 use mathlib.Core.Path.{ap, _∙_}
 use borrow.Author.Needs.{needs}
 use Rattle.quayrudder.proofs.qr_read.Statement.{statement}

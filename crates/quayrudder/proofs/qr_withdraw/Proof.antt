@@ -1,4 +1,4 @@
-use Rattle.quayrudder.specs.Answers.{ledgerResult}
+use Rattle.ledger_report.specs.Report.{ledgerResult}
 use mathlib.Core.Path.{ap, _∙_}
 use borrow.Author.Needs.{needs}
 use Rattle.quayrudder.proofs.qr_withdraw.Statement.{statement}
@@ -6,7 +6,7 @@ use Rattle.quayrudder.proofs.qr_withdraw.Tie as tie
 use Rattle.quayrudder.proofs.qr_withdraw.Reads as reads
 use Rattle.quayrudder.proofs.qr_withdraw.Lts as lts
 use Rattle.archive.proofs.withdraw.Reads as withdraw-reads
-use Rattle.quayrudder.proofs.ledger_result.Reads as ledger-result-reads
+use Rattle.ledger_report.proofs.ledger_result.Reads as ledger-result-reads
 
 withdraw-requires : tie.Need-withdraw-requires
 withdraw-requires c κs = search needs

@@ -1,4 +1,4 @@
-use Rattle.quayrudder.specs.Answers.{writeResult}
+use Rattle.frame_report.specs.Report.{writeResult}
 use mathlib.Core.Path.{ap, _∙_}
 use borrow.Author.Needs.{needs}
 use Rattle.quayrudder.proofs.qr_write.Statement.{statement}
