@@ -243,7 +243,7 @@ fn amend_correction(
     )
 }
 
-// Takes the last standing line back, which must be a correction, and corrects its pixel to another count.
+// Puts another count in place of the last standing correction's: that line taken back and a line for the new count, or nothing.
 pub fn amend(held: &mut [u8], ledger: &mut [u8], lines: u64, count: u32) -> LedgerAnswer
     ensures { λ r. ⌜ r ≡ amendOutcome (now (held .entry)) (now (ledger .entry)) lines count .answer ⌝ }
     ensures { λ _. ⌜ now (held .exit) ≡ amendOutcome (now (held .entry)) (now (ledger .entry)) lines count .held ⌝ }
