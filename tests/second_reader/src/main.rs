@@ -36,8 +36,8 @@ use std::time::{Duration, Instant, SystemTime, UNIX_EPOCH};
 use tally::Tally;
 
 const USAGE: &str =
-    "second_reader compare [--seed N] [--seconds S] [--fault 1..5] [--case FILE] [--trace 1]\n\
-                     second_reader replay FILE [--fault 1..5]\n\
+    "second_reader compare [--seed N] [--seconds S] [--fault 1..6] [--case FILE] [--trace 1]\n\
+                     second_reader replay FILE [--fault 1..6]\n\
                      second_reader mar-trials\n\
                      second_reader dtrek-trials\n\
                      second_reader expand FRAME PIXELS\n\
