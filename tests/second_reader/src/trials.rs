@@ -9,16 +9,7 @@ use crate::random::Random;
 use crate::sample::{self, Layout};
 
 fn one_row(columns: usize, width: u32, underflow: u32) -> Layout {
-    Layout {
-        format: 100,
-        blocks: 15,
-        rows: 1,
-        columns,
-        width,
-        underflow,
-        baseline: 32,
-        counts: vec![if underflow == 0 { -1 } else { 0 }, 0, 0],
-    }
+    Layout::one_row(columns, (width, underflow), 32)
 }
 
 /// The bytes after the header that the writer gives for these pixels.
