@@ -42,7 +42,7 @@ const SENTENCES: [Sentence; 38] = [
     say("the first number is neither 1200 nor 2000", "Check that this is an uncompressed mar image."),
     say("the sizes in the mar header do not fit together", "Entry 2 must be entry 1, entry 3 twice that, and entry 6 the records that the pairs of entry 5 fill: take another copy of the image."),
     say("the underflow buffer is too short for the entries", "Lend as many bytes as the frame's underflow entries take without padding."),
-    say("the last standing line is a keep date, not a correction", "Take it back first with `quayrudder withdraw NAME`, or correct the pixel with `quayrudder correct NAME PIXEL COUNT`."),
+    say("what stands last is a keep date, not a correction", "Take it back first with `quayrudder withdraw NAME`, or correct the pixel with `quayrudder correct NAME PIXEL COUNT`."),
     say("the header's start or its length is wrong", "Check that this is a d*TREK image: it starts with `{`, a newline, `HEADER_BYTES=`, five characters with a multiple of 512 up to 99840, and a semicolon. A transfer as text may have changed its line ends."),
     say("the header's syntax is broken, its end or padding is wrong, or a keyword stands twice", "Compare the header with another image of the series: items are `KEYWORD=value;`, each followed by a newline, and after the closing brace there are a newline, a form feed, a newline and then only spaces."),
     say("a required keyword is missing or has another content", "Look at DIM (2), SIZE1 and SIZE2 (1 to 4096, or both 0), BYTE_ORDER (big_endian or little_endian) and Data_type."),

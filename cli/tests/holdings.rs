@@ -181,7 +181,7 @@ fn each_refusal_of_an_amend_has_its_sentence() {
     untouched(&f, "amend a 1", 22, nothing);
     f.done("correct a 3,3 9");
     f.done("keep a 2031-11-02");
-    let keep_last = "a: refusal 31: the last standing line is a keep date, not a correction. Take it back first with \
+    let keep_last = "a: refusal 31: what stands last is a keep date, not a correction. Take it back first with \
                      `quayrudder withdraw NAME`, or correct the pixel with `quayrudder correct NAME PIXEL COUNT`.";
     untouched(&f, "amend a 1", 31, keep_last);
     f.done("withdraw a");
