@@ -2,13 +2,14 @@
 use crate::args::{Correct, Place};
 use crate::failure::{shown, Failure, Outcome};
 use crate::holding::{Change, Contents, Holding, Owned};
-use crate::holdings::{accepted, accepted_or, line_text, line_value, withdrawal};
+use crate::holdings::{accepted_or, line_text, line_value, withdrawal};
 use crate::ledger::{self, Lent, Line};
 use crate::output::Output;
-use crate::refusals::amend_sentence;
+use crate::refusals::{amend_sentence, sentence, Sentences};
 use crate::room;
 use crate::rows;
 use crate::table::Asked;
+use quayrudder::LedgerAnswer;
 use serde_json::json;
 use std::time::Duration;
 
@@ -66,21 +67,25 @@ impl Draft {
 
     /// Makes a correction here. One that is refused changes nothing.
     pub fn correct(&mut self, holding: &Holding, asked: Asked) -> Outcome<()> {
-        let (pixel, lent) = (pixel_number(asked.place, &self.held), &mut self.lent);
-        let call = |held: &mut [u8]| quayrudder::correct(held, &mut lent.bytes, lent.lines, pixel, asked.count);
-        let answer = room::lend(&mut self.held, call);
-        accepted(holding, answer.refusal, &self.lent.bytes)?;
-        self.lent.lines = answer.lines;
-        Ok(())
+        let (pixel, count) = (pixel_number(asked.place, &self.held), asked.count);
+        self.make(holding, sentence, |held, ledger, lines| quayrudder::correct(held, ledger, lines, pixel, count))
     }
 
     /// Amends the last standing line here, if that is a correction. One that is refused changes nothing.
     fn amend(&mut self, holding: &Holding, count: u32) -> Outcome<()> {
+        self.make(holding, amend_sentence, |held, ledger, lines| quayrudder::amend(held, ledger, lines, count))
+    }
+
+    fn make(
+        &mut self,
+        holding: &Holding,
+        sentences: Sentences,
+        call: impl Fn(&mut [u8], &mut [u8], u64) -> LedgerAnswer,
+    ) -> Outcome<()> {
         let lent = &mut self.lent;
-        let call = |held: &mut [u8]| quayrudder::amend(held, &mut lent.bytes, lent.lines, count);
-        let answer = room::lend(&mut self.held, call);
-        accepted_or(holding, answer.refusal, &self.lent.bytes, amend_sentence)?;
-        self.lent.lines = answer.lines;
+        let answer = room::lend(&mut self.held, |held| call(held, &mut lent.bytes, lent.lines));
+        accepted_or(holding, answer.refusal, &lent.bytes, sentences)?;
+        lent.lines = answer.lines;
         Ok(())
     }
 
