@@ -35,6 +35,10 @@ qr_ledger_answer qr_correct(uint8_t *held, size_t held_len, uint8_t *ledger, siz
 /* The last standing line taken back, and a withdrawal line appended. */
 qr_ledger_answer qr_withdraw(uint8_t *held, size_t held_len, uint8_t *ledger, size_t ledger_len, uint64_t lines);
 
+/* The last standing line, a correction, taken back and its pixel set to a count: a withdrawal line and a correction line appended, or neither.
+   Only the frame after both is judged by its length and its underflow entries. Refusals 19, 20, 22, 31, 24, 23, 21, 17, 18, in this order. */
+qr_ledger_answer qr_amend(uint8_t *held, size_t held_len, uint8_t *ledger, size_t ledger_len, uint64_t lines, uint32_t count);
+
 /* A keep line appended to the ledger, of which so many lines are used. */
 qr_ledger_answer qr_keep(uint8_t *ledger, size_t ledger_len, uint64_t lines, uint32_t year, uint32_t month, uint32_t day);
 

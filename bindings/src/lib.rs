@@ -156,6 +156,9 @@ mod c {
         pub fn qr_withdraw(
             held: *mut u8, held_len: usize, ledger: *mut u8, ledger_len: usize, lines: u64,
         ) -> LedgerAnswer;
+        pub fn qr_amend(
+            held: *mut u8, held_len: usize, ledger: *mut u8, ledger_len: usize, lines: u64, count: u32,
+        ) -> LedgerAnswer;
         pub fn qr_may_purge(
             ledger: *const u8, ledger_len: usize, lines: u64, year: u32, month: u32, day: u32,
         ) -> u32;
@@ -207,6 +210,12 @@ pub fn keep(ledger: &mut [u8], lines: u64, date: Date) -> LedgerAnswer {
 pub fn withdraw(held: &mut [u8], ledger: &mut [u8], lines: u64) -> LedgerAnswer {
     let (n, m) = (held.len(), ledger.len());
     unsafe { c::qr_withdraw(held.as_mut_ptr(), n, ledger.as_mut_ptr(), m, lines) }
+}
+
+/// Takes the last standing correction back and corrects its pixel to another count: two lines, or none.
+pub fn amend(held: &mut [u8], ledger: &mut [u8], lines: u64, count: u32) -> LedgerAnswer {
+    let (n, m) = (held.len(), ledger.len());
+    unsafe { c::qr_amend(held.as_mut_ptr(), n, ledger.as_mut_ptr(), m, lines, count) }
 }
 
 /// May the frame be purged on this day: 0, or the refusal.

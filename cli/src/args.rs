@@ -71,6 +71,14 @@ pub enum Command {
     #[command(after_help = "Examples:\n  quayrudder correct lyso1 5,17 300\n  quayrudder correct lyso1 2577 300\n  \
                             quayrudder correct --from bad_pixels.csv")]
     Correct(Correct),
+    /// Amend the last line that stands, a correction: take it back and give its pixel another count, in one change
+    #[command(after_help = "Example:\n  quayrudder amend lyso1 310")]
+    Amend {
+        /// The holding
+        name: PathBuf,
+        /// The count that the same pixel gets instead, 0 to 4294967295
+        count: u32,
+    },
     /// Keep holdings until this day, the last word; an earlier one than before needs --shorten
     #[command(
         mut_arg("names", holdings_and_day),

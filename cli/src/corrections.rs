@@ -1,13 +1,15 @@
-//! The corrections: one pixel, or those of a table.
+//! The corrections: one pixel, those of a table, or the last one amended.
 use crate::args::{Correct, Place};
 use crate::failure::{shown, Failure, Outcome};
 use crate::holding::{Change, Contents, Holding, Owned};
-use crate::holdings::{accepted, line_text, line_value};
+use crate::holdings::{accepted_or, line_text, line_value, withdrawal};
 use crate::ledger::{self, Lent, Line};
 use crate::output::Output;
+use crate::refusals::{amend_sentence, sentence, Sentences};
 use crate::room;
 use crate::rows;
 use crate::table::Asked;
+use quayrudder::LedgerAnswer;
 use serde_json::json;
 use std::time::Duration;
 
@@ -33,6 +35,21 @@ fn one(output: &mut Output, holding: &Holding, asked: Asked) -> Outcome<()> {
     })
 }
 
+/// Takes the last standing line back, a correction, and corrects its pixel to another count.
+pub fn amend(output: &mut Output, holding: &Holding, count: u32) -> Outcome<()> {
+    let (owned, found) = holding.change()?;
+    let (before, taken) = (ledger::lines(&found.ledger), ledger::last_standing(&ledger::listing(&found.ledger)));
+    let mut draft = Draft::of(found, 2);
+    draft.amend(holding, count)?;
+    let lines = draft.commit(&owned, 1)?;
+    let (mut text, mut value) = withdrawal(holding, before + 1, taken.as_ref());
+    lines.iter().for_each(|line| {
+        text += &format!("; line {}: {}", line.number, line_text(line));
+        value["appended"] = line_value(line);
+    });
+    output.say(&text, &value)
+}
+
 /// Both files of a holding as they become, and as they were found.
 pub struct Draft {
     held: Vec<u8>,
@@ -50,11 +67,25 @@ impl Draft {
 
     /// Makes a correction here. One that is refused changes nothing.
     pub fn correct(&mut self, holding: &Holding, asked: Asked) -> Outcome<()> {
-        let (pixel, lent) = (pixel_number(asked.place, &self.held), &mut self.lent);
-        let call = |held: &mut [u8]| quayrudder::correct(held, &mut lent.bytes, lent.lines, pixel, asked.count);
-        let answer = room::lend(&mut self.held, call);
-        accepted(holding, answer.refusal, &self.lent.bytes)?;
-        self.lent.lines = answer.lines;
+        let (pixel, count) = (pixel_number(asked.place, &self.held), asked.count);
+        self.make(holding, sentence, |held, ledger, lines| quayrudder::correct(held, ledger, lines, pixel, count))
+    }
+
+    /// Amends the last standing line here, if that is a correction. One that is refused changes nothing.
+    fn amend(&mut self, holding: &Holding, count: u32) -> Outcome<()> {
+        self.make(holding, amend_sentence, |held, ledger, lines| quayrudder::amend(held, ledger, lines, count))
+    }
+
+    fn make(
+        &mut self,
+        holding: &Holding,
+        sentences: Sentences,
+        call: impl Fn(&mut [u8], &mut [u8], u64) -> LedgerAnswer,
+    ) -> Outcome<()> {
+        let lent = &mut self.lent;
+        let answer = room::lend(&mut self.held, |held| call(held, &mut lent.bytes, lent.lines));
+        accepted_or(holding, answer.refusal, &lent.bytes, sentences)?;
+        lent.lines = answer.lines;
         Ok(())
     }
 

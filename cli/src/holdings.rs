@@ -8,7 +8,7 @@ use crate::holding::{Change, Holding};
 use crate::ledger::{self, Entry, Lent, Line};
 use crate::names::{self, Doubled, Item};
 use crate::output::Output;
-use crate::refusals::sentence;
+use crate::refusals::{sentence, Sentences};
 use crate::room;
 use crate::shard::Shard;
 use quayrudder::Date;
@@ -106,29 +106,40 @@ fn withdrawn(holding: &Holding) -> Outcome<Said> {
     accepted(holding, answer.refusal, &lent.bytes)?;
     let ledger = lent.used(answer.lines);
     owned.commit(found.state, &Change { held: Some(&found.held), ledger: Some(ledger), notes: found.notes() })?;
-    let (name, now) = (shown(&holding.name), ledger::keep_date(&ledger::listing(ledger)));
-    let mut text = format!("{name}: line {}", answer.lines);
-    let mut value = json!({"name": name, "line": answer.lines});
-    if let Some(taken) = ledger::last_standing(&ledger::listing(&found.ledger)) {
-        text += &format!(" withdraws line {}: {}", taken.number, line_text(&taken));
-        value["withdraws"] = line_value(&taken);
-        if let Entry::Keep { .. } = taken.entry {
-            text += &now.as_ref().map_or("; no keep date stands now".into(), |now| format!("; now kept until {now}"));
-            value["kept_until"] = json!(now);
-        }
+    let taken = ledger::last_standing(&ledger::listing(&found.ledger));
+    let (mut text, mut value) = withdrawal(holding, answer.lines, taken.as_ref());
+    if let Some(Line { entry: Entry::Keep { .. }, .. }) = taken {
+        let now = ledger::keep_date(&ledger::listing(ledger));
+        text += &now.as_ref().map_or("; no keep date stands now".into(), |now| format!("; now kept until {now}"));
+        value["kept_until"] = json!(now);
     }
     Ok(Said { text, value, counted: "withdrawn" })
 }
 
-/// A refusal names the file that it is about.
+/// What is said of a withdrawal, the line of this number, and of the line that it takes back.
+pub fn withdrawal(holding: &Holding, line: u64, taken: Option<&Line>) -> (String, Value) {
+    let name = shown(&holding.name);
+    let (mut text, mut value) = (format!("{name}: line {line}"), json!({"name": name, "line": line}));
+    if let Some(taken) = taken {
+        text += &format!(" withdraws line {}: {}", taken.number, line_text(taken));
+        value["withdraws"] = line_value(taken);
+    }
+    (text, value)
+}
+
 pub fn accepted(holding: &Holding, refusal: u32, ledger: &[u8]) -> Outcome<()> {
+    accepted_or(holding, refusal, ledger, sentence)
+}
+
+/// A refusal names the file that it is about, and has its sentence from these.
+pub fn accepted_or(holding: &Holding, refusal: u32, ledger: &[u8], sentences: Sentences) -> Outcome<()> {
     let (file, note) = match refusal {
         0 => return Ok(()),
         17 | 18 | 19 | 23 | 24 => (&holding.held, String::new()),
         20 => (&holding.ledger, ledger::length_note(ledger)),
         _ => (&holding.name, String::new()),
     };
-    let (file, said) = (file.clone(), sentence(refusal));
+    let (file, said) = (file.clone(), sentences(refusal));
     Err(Failure::Refused(Refused { file, number: refusal, place: 0, column: 0, note, said }))
 }
 

@@ -91,6 +91,7 @@ fn run(output: &mut Output, command: Command, seconds: Option<u32>) -> Outcome<(
         Command::Write(asked) => frames::write(output, &asked),
         Command::Open(asked) => opening::open(output, &asked, wait),
         Command::Correct(asked) => corrections::correct(output, &asked, wait),
+        Command::Amend { name, count } => corrections::amend(output, &Holding::named(&name, wait)?, count),
         Command::Keep(asked) => holdings::keep(output, &asked, wait),
         Command::Withdraw { names } => holdings::withdraw(output, &names, wait),
         Command::List { names } => holdings::list(output, &names, wait),

@@ -42,7 +42,7 @@ const SENTENCES: [Sentence; 38] = [
     say("the first number is neither 1200 nor 2000", "Check that this is an uncompressed mar image."),
     say("the sizes in the mar header do not fit together", "Entry 2 must be entry 1, entry 3 twice that, and entry 6 the records that the pairs of entry 5 fill: take another copy of the image."),
     say("the underflow buffer is too short for the entries", "Lend as many bytes as the frame's underflow entries take without padding."),
-    say("the last standing line is a keep date, not a correction", "Look at the lines with `quayrudder list`: only a correction can be amended."),
+    say("what stands last is a keep date, not a correction", "Take it back first with `quayrudder withdraw NAME`, or correct the pixel with `quayrudder correct NAME PIXEL COUNT`."),
     say("the header's start or its length is wrong", "Check that this is a d*TREK image: it starts with `{`, a newline, `HEADER_BYTES=`, five characters with a multiple of 512 up to 99840, and a semicolon. A transfer as text may have changed its line ends."),
     say("the header's syntax is broken, its end or padding is wrong, or a keyword stands twice", "Compare the header with another image of the series: items are `KEYWORD=value;`, each followed by a newline, and after the closing brace there are a newline, a form feed, a newline and then only spaces."),
     say("a required keyword is missing or has another content", "Look at DIM (2), SIZE1 and SIZE2 (1 to 4096, or both 0), BYTE_ORDER (big_endian or little_endian) and Data_type."),
@@ -72,8 +72,19 @@ const DTREK_TRUNCATED: Sentence =
 const DTREK_DATA_TRUNCATED: Sentence =
     say("the file ends within the image", "Compare the file's size with its copy: it is cut short.");
 
+// And of a correction that is amended.
+const AMEND_NOTHING: Sentence =
+    say("nothing stands that could be amended", "Correct the pixel with `quayrudder correct NAME PIXEL COUNT`.");
+const AMEND_NO_PIXEL: Sentence = say(
+    "the frame has no such pixel as the last standing line has",
+    "Held file and ledger do not belong together: restore the holding from its copy.",
+);
+
 const UNKNOWN: Sentence =
     say("the library gives a number that this command does not know", "Build command and library of the same state.");
+
+/// What is said of a refusal in one kind of call.
+pub type Sentences = fn(u32) -> &'static Sentence;
 
 pub fn sentence(number: u32) -> &'static Sentence {
     let place = (number as usize).wrapping_sub(1);
@@ -86,6 +97,15 @@ pub fn mar_sentence(number: u32) -> &'static Sentence {
         1 => &MAR_TRUNCATED,
         11 => &MAR_DATA_TRUNCATED,
         13 => &MAR_BAD_PAIR,
+        _ => sentence(number),
+    }
+}
+
+/// The sentence where a correction is amended.
+pub fn amend_sentence(number: u32) -> &'static Sentence {
+    match number {
+        22 => &AMEND_NOTHING,
+        24 => &AMEND_NO_PIXEL,
         _ => sentence(number),
     }
 }

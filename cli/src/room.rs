@@ -1,7 +1,7 @@
 //! Room for a held frame to grow by.
 use quayrudder::LedgerAnswer;
 
-/// One correction or withdrawal makes a frame longer by at most so many bytes: a step of 16 in each of three tables.
+/// Another count for one pixel makes a frame longer by at most so many bytes: a step of 16 in each of three tables.
 const STEP: usize = 48;
 /// The library's refusal of a buffer that is too short for the longer frame.
 const NO_ROOM: u32 = 18;

@@ -130,6 +130,16 @@ fn failed_at_every_step_of_a_withdrawal() {
 }
 
 #[test]
+fn killed_at_every_step_of_an_amend() {
+    at_every_step("amend a 65535", &KILLS, 26);
+}
+
+#[test]
+fn failed_at_every_step_of_an_amend() {
+    at_every_step("amend a 65535", &ERRORS, 26);
+}
+
+#[test]
 fn killed_and_failed_at_every_step_of_opening() {
     at_every_step("open a.sfrm --form 1+2 --room 50 -o a", &KILLS, 26);
     at_every_step("open a.sfrm --form 1+2 --room 50 -o a", &ERRORS, 26);
@@ -181,7 +191,7 @@ fn every_command_finishes_an_unfinished_change_first() {
         assert_eq!(state(&f), new, "{words}");
         assert!(f.sums_hold("a.sha256"), "{words}");
     }
-    for words in ["correct a 6 6", "keep a 2033-01-01", "withdraw a"] {
+    for words in ["correct a 6 6", "amend a 6", "keep a 2033-01-01", "withdraw a"] {
         let (f, _) = unfinished();
         assert_eq!(f.run(words).status, Some(0));
         let line = f.done("list a").lines().nth(3).unwrap().to_string();
@@ -213,8 +223,8 @@ fn a_damaged_record_is_an_error_and_nothing_is_deleted() {
     let record = f.get("a.redo");
     let old = state(&f);
     f.put("a.redo", &record[..record.len() - 1]);
-    let commands = ["list a", "verify a", "correct a 1 1", "withdraw a", "keep a 2040-01-01", "may-purge a 2040-01-01"];
-    for words in commands {
+    let changes = ["correct a 1 1", "amend a 1", "withdraw a", "keep a 2040-01-01"];
+    for words in ["list a", "verify a", "may-purge a 2040-01-01"].into_iter().chain(changes) {
         let ran = f.run(words);
         let said = "a.redo: is the record of an unfinished change, and damaged. Nothing was changed or deleted.";
         assert!(ran.status == Some(4) && ran.err.contains(said), "{words}: {ran:?}");
@@ -344,8 +354,10 @@ const RECORDED: &str = "rename a.redo\nfsync FOLDER\n";
 fn everything_is_synced_before_it_is_relied_on() {
     let all = ["a.held", "a.ledger", "a.sha256", "a.redo"].map(staged).concat();
     let placed = "rename a.held\nrename a.ledger\nrename a.sha256\nfsync FOLDER\nunlink a.redo\nftruncate a.lock";
-    let f = before("correct");
-    assert_eq!(calls(&f, "correct a 1 1"), MARKED.to_string() + &all + RECORDED + placed);
+    for words in ["correct a 1 1", "amend a 1"] {
+        let f = before(words);
+        assert_eq!(calls(&f, words), MARKED.to_string() + &all + RECORDED + placed);
+    }
     let f = before("open");
     let all = all.replace("write .a.ledger.new\n", "");
     assert_eq!(calls(&f, "open a.sfrm --form 1 -o a"), MARKED.to_string() + &all + RECORDED + placed);
@@ -423,7 +435,7 @@ fn a_read_only_folder_answers_questions_and_takes_no_change() {
         for words in ["list a", "verify a", "may-purge a 2031-11-03", "sweep . --day 2031-11-03"] {
             assert_eq!(read_only(&f, words).status, Some(0), "{words}");
         }
-        for words in ["correct a 1 1", "withdraw a", "keep a 2040-01-01", "open a.sfrm --form 1 -o b"] {
+        for words in ["correct a 1 1", "amend a 1", "withdraw a", "keep a 2040-01-01", "open a.sfrm --form 1 -o b"] {
             let ran = read_only(&f, words);
             assert!(ran.status == Some(3) && ran.err.contains("Read-only file system"), "{words}: {ran:?}");
         }

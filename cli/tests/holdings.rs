@@ -1,7 +1,7 @@
-//! open, correct, keep, withdraw, list, may-purge, verify, and refusals 16 to 27, by the real command.
+//! open, correct, amend, keep, withdraw, list, may-purge, verify, and refusals 16 to 27 and 31, by the real command.
 mod common;
 use common::header::{Header, LENGTH};
-use common::{folder, frame, old_frame, plain_frame, Folder, OLD_ENTRY};
+use common::{folder, frame, old_frame, plain_frame, state_of, Folder, OLD_ENTRY};
 use std::fs;
 use std::process::Stdio;
 
@@ -121,6 +121,96 @@ fn each_refusal_of_a_change_has_its_sentence() {
     untouched(&f, "correct a 0 1", 19, "the held file is no frame as the writer makes it");
 }
 
+#[test]
+fn a_correction_is_amended_and_the_listing_has_both_lines() {
+    let f = folder();
+    f.hold("1+2", 0);
+    f.done("keep a 2031-11-02");
+    f.done("correct a 1,2 70000");
+    let said =
+        "a: line 3 withdraws line 2: pixel 6 corrected from 66 to 70000; line 4: pixel 6 corrected from 66 to 700\n";
+    assert_eq!((f.done("amend a 700").as_str(), counts(&f)[6]), (said, 700));
+    let said = "a: line 5 withdraws line 4: pixel 6 corrected from 66 to 700; line 6: pixel 6 corrected from 66 to 7\n";
+    assert_eq!((f.done("amend a.held 7").as_str(), counts(&f)[6]), (said, 7));
+    let correction = |line: u64, new: u64| {
+        format!(r#"{{"line":{line},"kind":"correct","pixel":6,"old":66,"new":{new},"withdrawn":false}}"#)
+    };
+    let (taken, appended) = (correction(6, 7), correction(8, 70));
+    let said = format!("{{\"name\":\"a\",\"line\":7,\"withdraws\":{taken},\"appended\":{appended}}}\n");
+    assert_eq!(f.done("amend a 70 --json"), said);
+    let listing = "line 1 keep 2031-11-02\nline 2 correct 6 66 70000 withdrawn\nline 3 withdraw\n\
+                   line 4 correct 6 66 700 withdrawn\nline 5 withdraw\nline 6 correct 6 66 7 withdrawn\n\
+                   line 7 withdraw\nline 8 correct 6 66 70\nstanding 2\n";
+    assert_eq!(f.done("list a"), listing);
+    assert_eq!(f.done("verify a"), "a: held frame, ledger and sums agree, 8 lines, 2 standing\n");
+    f.done("withdraw a");
+    assert_eq!(counts(&f)[6], 66);
+}
+
+#[test]
+fn an_amend_leaves_the_files_that_two_commands_leave() {
+    let (one, two) = (folder(), folder());
+    for f in [&one, &two] {
+        f.hold("1+2", 0);
+        f.done("correct a 9 12");
+        f.done("correct a 3 70000");
+    }
+    one.done("amend a 300");
+    two.done("withdraw a");
+    two.done("correct a 3 300");
+    assert_eq!(state_of(&one, "a"), state_of(&two, "a"));
+}
+
+#[test]
+fn an_amend_gets_room_for_the_longer_frame() {
+    let f = folder();
+    f.hold("1+2", 0);
+    f.done("correct a 3 50");
+    assert_eq!(f.get("a.held").len(), LENGTH + 16);
+    assert!(f.done("amend a 70000").ends_with("; line 3: pixel 3 corrected from 63 to 70000\n"));
+    assert_eq!((f.get("a.held").len(), counts(&f)[3]), (LENGTH + 16 + 48, 70000));
+    assert_eq!(f.done("verify a"), "a: held frame, ledger and sums agree, 3 lines, 1 standing\n");
+}
+
+#[test]
+fn each_refusal_of_an_amend_has_its_sentence() {
+    let f = folder();
+    f.hold("1", 0);
+    let nothing =
+        "a: refusal 22: nothing stands that could be amended. Correct the pixel with `quayrudder correct NAME";
+    untouched(&f, "amend a 1", 22, nothing);
+    f.done("correct a 3,3 9");
+    f.done("keep a 2031-11-02");
+    let keep_last = "a: refusal 31: what stands last is a keep date, not a correction. Take it back first with \
+                     `quayrudder withdraw NAME`, or correct the pixel with `quayrudder correct NAME PIXEL COUNT`.";
+    untouched(&f, "amend a 1", 31, keep_last);
+    f.done("withdraw a");
+    assert!(f.done("amend a 8").starts_with("a: line 4 withdraws line 1: pixel 15 corrected from 75 to 9; line 5: "));
+    f.without_sums("a");
+    let (held, ledger) = (f.get("a.held"), f.get("a.ledger"));
+    f.put("a.ledger", [&ledger[..], &[1, 2, 3]].concat());
+    untouched(&f, "amend a 1", 20, "a.ledger: refusal 20: the ledger is malformed (it has 83 bytes");
+    let pixel_16 = (16u128 << 81 | 75 << 49 | 8 << 17).to_be_bytes();
+    f.put("a.ledger", [&ledger[..], &pixel_16].concat());
+    untouched(&f, "amend a 1", 24, "a.held: refusal 24: the frame has no such pixel as the last standing line has");
+    f.put("a.ledger", &ledger);
+    f.put("a.held", plain_held(&held));
+    untouched(&f, "amend a 1", 23, "a.held: refusal 23: the pixel is not the count that its ledger line says");
+    f.put("a.held", &held[..held.len() - 1]);
+    untouched(&f, "amend a 1", 19, "a.held: refusal 19: the held file is no frame as the writer makes it");
+}
+
+#[test]
+fn an_amend_to_a_count_too_large_for_its_underflow_entry_is_refused() {
+    let f = folder();
+    f.put("a.sfrm", frame(Header::new(1, 1).line(79, "NEXP   :1 0 300"), &[250]));
+    f.done("open a.sfrm --form 1+1 -o a");
+    f.done("correct a 0 400");
+    untouched(&f, "amend a 256", 17, "a.held: refusal 17: an underflow entry is too large for one byte");
+    f.done("amend a 255");
+    assert_eq!(counts(&f), [255]);
+}
+
 /// The held bytes with pixel 15 as it was opened.
 fn plain_held(held: &[u8]) -> Vec<u8> {
     let mut held = held.to_vec();
@@ -178,12 +268,15 @@ fn bad_usage_has_its_status() {
     for words in ["correct a 1 -1", "open a -o b", "sweep", "sweep . --day 11/02/2031", "list a/"] {
         assert_eq!(f.run(words).status, Some(2), "{words}");
     }
+    for words in ["amend", "amend a", "amend a x", "amend a -1", "amend a 4294967296", "amend a 1,2 3", "amend a/ 1"] {
+        assert_eq!(f.run(words).status, Some(2), "{words}");
+    }
 }
 
 #[test]
 fn every_command_has_help_with_an_example() {
     let f = folder();
-    let commands = "info expand view write open correct keep withdraw list may-purge verify sweep";
+    let commands = "info expand view write open correct amend keep withdraw list may-purge verify sweep";
     for command in commands.split(' ') {
         let help = f.done(&format!("{command} --help"));
         assert!(help.contains(&format!("  quayrudder {command} ")), "{help}");

@@ -42,6 +42,27 @@ fn last_number(line: &str) -> u32 {
     line.rsplit(' ').next().unwrap().parse().unwrap()
 }
 
+#[test]
+fn amends_by_two_are_made_whole_one_after_the_other() {
+    let f = folder();
+    large(&f);
+    f.done("correct a 7 99");
+    let amend_all = |first: u32| (first..first + 100).for_each(|count| f.run_quietly(&format!("amend a {count}")));
+    thread::scope(|scope| {
+        scope.spawn(|| amend_all(100_000));
+        scope.spawn(|| amend_all(200_000));
+    });
+    let listing = f.done("list a");
+    let lines: Vec<&str> = listing.lines().collect();
+    let mut counts = HashSet::new();
+    for pair in lines[1..].chunks_exact(2) {
+        assert!(pair[0].ends_with(" withdraw") && pair[1].contains(" correct 7 50 "), "{pair:?}");
+        counts.insert(pair[1].split(' ').nth(5).unwrap().parse::<u32>().unwrap());
+    }
+    assert_eq!(counts, (100_000..100_100).chain(200_000..200_100).collect());
+    assert_eq!(f.done("verify a"), "a: held frame, ledger and sums agree, 401 lines, 1 standing\n");
+}
+
 impl Folder {
     fn run_quietly(&self, words: &str) {
         let ran = self.run(words);

@@ -16,7 +16,7 @@ use tempfile::TempDir;
 pub const TODAY: &str = "2026-11-16";
 
 /// The refusals of what is asked for. The others say that a frame, a ledger or a holding is not what it must be.
-const ASKED_FOR: [u32; 11] = [10, 16, 17, 18, 21, 22, 24, 25, 26, 27, 37];
+const ASKED_FOR: [u32; 12] = [10, 16, 17, 18, 21, 22, 24, 25, 26, 27, 31, 37];
 
 pub struct Folder(TempDir);
 

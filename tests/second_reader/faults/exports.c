@@ -10,6 +10,7 @@ void rattle_qr_open(qr_open_answer *, slice *, slice *, uint32_t, uint32_t, slic
 void rattle_qr_correct(qr_ledger_answer *, slice *, slice *, uint64_t, uint64_t, uint32_t);
 void rattle_qr_keep(qr_ledger_answer *, slice *, uint64_t, uint32_t, uint32_t, uint32_t);
 void rattle_qr_withdraw(qr_ledger_answer *, slice *, slice *, uint64_t);
+void rattle_qr_amend(qr_ledger_answer *, slice *, slice *, uint64_t, uint32_t);
 uint32_t rattle_qr_may_purge(slice *, uint64_t, uint32_t, uint32_t, uint32_t);
 void rattle_qr_header(qr_header_answer *, slice *);
 void rattle_qr_list(qr_list_answer *, slice *, slice *);
@@ -61,6 +62,13 @@ qr_ledger_answer qr_withdraw(uint8_t *held, size_t held_len, uint8_t *ledger, si
     slice h = { held, held_len }, l = { ledger, ledger_len };
     qr_ledger_answer answer;
     rattle_qr_withdraw(&answer, &h, &l, lines);
+    return answer;
+}
+
+qr_ledger_answer qr_amend(uint8_t *held, size_t held_len, uint8_t *ledger, size_t ledger_len, uint64_t lines, uint32_t count) {
+    slice h = { held, held_len }, l = { ledger, ledger_len };
+    qr_ledger_answer answer;
+    rattle_qr_amend(&answer, &h, &l, lines, count);
     return answer;
 }
 

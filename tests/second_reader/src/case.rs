@@ -10,6 +10,7 @@ pub enum Call {
     Correct,
     Keep,
     Withdraw,
+    Amend,
     Purge,
     Header,
     Listing,
@@ -22,13 +23,14 @@ pub enum Call {
     List,
 }
 
-pub const CALLS: [(Call, &str); 15] = [
+pub const CALLS: [(Call, &str); 16] = [
     (Call::Read, "read"),
     (Call::Write, "write"),
     (Call::Open, "open"),
     (Call::Correct, "correct"),
     (Call::Keep, "keep"),
     (Call::Withdraw, "withdraw"),
+    (Call::Amend, "amend"),
     (Call::Purge, "purge"),
     (Call::Header, "header"),
     (Call::Listing, "listing"),

@@ -72,6 +72,7 @@ fn library_step(fault: Fault, step: &Step, out: &mut Outcome) -> u64 {
         Call::Correct => fault.correct(held, ledger, case.lines, step.pixel, step.count),
         Call::Keep => library::keep(ledger, case.lines, step.date),
         Call::Withdraw => library::withdraw(held, ledger, case.lines),
+        Call::Amend => fault.amend(held, ledger, case.lines, step.count),
         Call::Purge => library::may_purge(ledger, case.lines, step.date),
         Call::Header => library::header(&case.frame),
         Call::Listing => library::list(ledger, held),
@@ -81,7 +82,8 @@ fn library_step(fault: Fault, step: &Step, out: &mut Outcome) -> u64 {
         Call::DtrekHeader => library::dtrek_header(&case.frame),
         Call::DtrekItem => library::dtrek_item(&case.frame, step.pixel),
     };
-    if matches!(step.call, Call::Correct | Call::Keep | Call::Withdraw) {
+    let appends = [Call::Correct, Call::Keep, Call::Withdraw, Call::Amend];
+    if appends.contains(&step.call) {
         case.lines = answer[1];
     }
     out.respected &= respected;
@@ -201,8 +203,9 @@ fn listing_answer(ledger: &[u8], out: &mut [u8]) -> Vec<u64> {
     vec![0, text.len() as u64]
 }
 
-fn ledger_answer(result: Result<(), u32>, lines: &mut u64) -> Vec<u64> {
-    *lines += u64::from(result.is_ok());
+/// The answer of a call that appends so many lines where it is accepted.
+fn ledger_answer(result: Result<(), u32>, further: u64, lines: &mut u64) -> Vec<u64> {
+    *lines += if result.is_ok() { further } else { 0 };
     vec![result.err().unwrap_or(0).into(), *lines]
 }
 
@@ -216,12 +219,19 @@ fn second_step(step: &Step, out: &mut Outcome) -> u64 {
         Call::Open | Call::List => open_answer(case),
         Call::Correct => {
             let result = held::correct(held, ledger, lines, step.pixel, step.count);
-            ledger_answer(result, &mut case.lines)
+            ledger_answer(result, 1, &mut case.lines)
         }
-        Call::Keep => ledger_answer(ledger::keep(ledger, lines, date(step)), &mut case.lines),
+        Call::Keep => {
+            let result = ledger::keep(ledger, lines, date(step));
+            ledger_answer(result, 1, &mut case.lines)
+        }
         Call::Withdraw => {
             let result = held::withdraw(held, ledger, lines);
-            ledger_answer(result, &mut case.lines)
+            ledger_answer(result, 1, &mut case.lines)
+        }
+        Call::Amend => {
+            let result = held::amend(held, ledger, lines, step.count);
+            ledger_answer(result, 2, &mut case.lines)
         }
         Call::Purge => {
             let result = ledger::may_purge(ledger, lines, date(step));
@@ -240,18 +250,20 @@ fn second_step(step: &Step, out: &mut Outcome) -> u64 {
 
 /// Enters one call into the reference model and brings the held buffer and the ledger to what it says.
 fn model_step(step: &Step, model: &mut Model, out: &mut Outcome) {
+    let one = |entry: Entry| vec![entry];
     let result = match step.call {
-        Call::Correct => model.correct(step.pixel, step.count).map(Some),
-        Call::Keep => model.keep(date(step)).map(Some),
-        Call::Withdraw => model.withdraw().map(Some),
-        _ => model.may_purge(date(step)).map(|()| None),
+        Call::Correct => model.correct(step.pixel, step.count).map(one),
+        Call::Keep => model.keep(date(step)).map(one),
+        Call::Withdraw => model.withdraw().map(one),
+        Call::Amend => model.amend(step.count).map(Vec::from),
+        _ => model.may_purge(date(step)).map(|()| Vec::new()),
     };
-    if let Ok(Some(entry)) = result {
+    let mut answer = vec![result.as_ref().err().copied().unwrap_or(0).into()];
+    for entry in result.unwrap_or_default() {
         ledger::append(&mut out.after.ledger, out.after.lines, entry);
         out.after.buffer = model.held(&model.pixels()).unwrap_or_default();
         out.after.lines += 1;
     }
-    let mut answer = vec![result.err().unwrap_or(0).into()];
     if step.call != Call::Purge {
         answer.push(model.lines);
     }

@@ -66,7 +66,7 @@ fn stated_length(file: &[u8]) -> Option<usize> {
         .filter(|_| rest.get(DIGITS) == Some(&b';'))?;
     let length = parse_number(&text[trimmed(text, 0..DIGITS)])? as usize;
     let blocks = 1..=MOST_BYTES / BLOCK;
-    (length % BLOCK == 0 && blocks.contains(&(length / BLOCK))).then_some(length)
+    (length.is_multiple_of(BLOCK) && blocks.contains(&(length / BLOCK))).then_some(length)
 }
 
 /// The header's bytes, or 32 or 1.

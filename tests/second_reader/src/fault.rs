@@ -17,6 +17,8 @@ pub enum Fault {
     Pixels,
     /// Pixels of two bytes, most significant first, of a d*TREK image are read the other way round.
     Swapped,
+    /// An amend is refused where its withdrawal alone would make a frame that cannot be written.
+    Between,
 }
 
 impl Fault {
@@ -28,6 +30,7 @@ impl Fault {
             Fault::Order,
             Fault::Pixels,
             Fault::Swapped,
+            Fault::Between,
         ];
         faults.get(number as usize).copied()
     }
@@ -67,6 +70,17 @@ impl Fault {
             }
         }
         library::correct(held, ledger, lines, pixel, count)
+    }
+
+    pub fn amend(self, held: &mut [u8], ledger: &mut [u8], lines: u64, count: u32) -> Answer {
+        if self == Fault::Between {
+            let (mut frame, mut pages) = (held.to_vec(), ledger.to_vec());
+            let (between, respected) = library::withdraw(&mut frame, &mut pages, lines);
+            if [17, 18].contains(&between[0]) {
+                return (between, respected);
+            }
+        }
+        library::amend(held, ledger, lines, count)
     }
 
     pub fn mar_read(self, file: &[u8], pixels: &mut [u32]) -> Answer {

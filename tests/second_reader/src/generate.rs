@@ -322,7 +322,7 @@ fn ledger_damage(random: &mut Random, ledger: &[u8], lines: u64) -> Mutation {
 fn damage(random: &mut Random, case: &Case) -> Vec<Mutation> {
     let target = match case.step.call {
         Call::Read | Call::Write | Call::Open | Call::Header | Call::List => Target::Frame,
-        Call::Correct | Call::Withdraw if random.once_in(2) => Target::Buffer,
+        Call::Correct | Call::Withdraw | Call::Amend if random.once_in(2) => Target::Buffer,
         _ => Target::Ledger,
     };
     let length = match case.step.call {
@@ -444,6 +444,7 @@ fn list_case(random: &mut Random, size: Size) -> Case {
         Call::Correct,
         Call::Keep,
         Call::Withdraw,
+        Call::Amend,
         Call::Purge,
     ];
     let baseline = frame::read_header(&case.frame).map_or(0, |header| header.baseline as u32);
@@ -533,22 +534,23 @@ fn size(random: &mut Random, number: u64) -> Size {
 pub fn case(random: &mut Random, number: u64) -> Made {
     let size = size(random, number);
     // The last nine look at no frame.
-    let calls = if size.is_large() { 15 } else { 24 };
+    let calls = if size.is_large() { 17 } else { 26 };
     let call = match random.below(calls) {
         0..=3 => Call::Read,
         4 | 5 => Call::Write,
         6 | 7 => Call::Open,
         8 | 9 => Call::Correct,
         10 | 11 => Call::Withdraw,
-        12 | 13 => Call::List,
-        14 => Call::Header,
-        15 => Call::Keep,
-        16 => Call::Purge,
-        17 => Call::Listing,
-        18 => return plates::headed_case(random, Call::MarEntry),
-        19 => return plates::headed_case(random, Call::MarRead),
-        20 | 21 => return dtrek_cases::case(random, Call::DtrekRead),
-        22 => return dtrek_cases::case(random, Call::DtrekHeader),
+        12 | 13 => Call::Amend,
+        14 | 15 => Call::List,
+        16 => Call::Header,
+        17 => Call::Keep,
+        18 => Call::Purge,
+        19 => Call::Listing,
+        20 => return plates::headed_case(random, Call::MarEntry),
+        21 => return plates::headed_case(random, Call::MarRead),
+        22 | 23 => return dtrek_cases::case(random, Call::DtrekRead),
+        24 => return dtrek_cases::case(random, Call::DtrekHeader),
         _ => return dtrek_cases::case(random, Call::DtrekItem),
     };
     let base = match call {

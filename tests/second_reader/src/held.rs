@@ -48,22 +48,35 @@ fn take_up(held: &[u8]) -> Result<Held, u32> {
     })
 }
 
-/// Writes the frame with one pixel changed and appends the entry: 21, 17, 18.
+impl Held {
+    /// The place of a correction's pixel, which has the count that it was given: 24, 23.
+    fn corrected(&self, pixel: u32, new: u32) -> Result<usize, u32> {
+        match self.pixels.get(pixel as usize) {
+            None => Err(24),
+            Some(count) if *count != new => Err(23),
+            Some(_) => Ok(pixel as usize),
+        }
+    }
+}
+
+/// Writes the frame with one pixel changed and appends the entries: 21, 17, 18.
 fn change(
     (buffer, ledger): (&mut [u8], &mut [u8]),
     lines: u64,
     mut held: Held,
     (pixel, count): (usize, u32),
-    entry: Entry,
+    entries: &[Entry],
 ) -> Result<(), u32> {
-    if ledger::is_full(ledger, lines) {
+    if ledger::free(ledger, lines) < entries.len() as u64 {
         return Err(21);
     }
     held.pixels[pixel] = count;
     let header = buffer.to_vec();
     frame::write(&header, &held.pixels, held.width, held.underflow, buffer)
         .map_err(|refusal| refusal.number)?;
-    ledger::append(ledger, lines, entry);
+    for (line, entry) in (lines..).zip(entries) {
+        ledger::append(ledger, line, *entry);
+    }
     Ok(())
 }
 
@@ -85,7 +98,7 @@ pub fn correct(
         old: held.pixels[place],
         new: count,
     };
-    change((buffer, ledger), lines, held, (place, count), entry)
+    change((buffer, ledger), lines, held, (place, count), &[entry])
 }
 
 pub fn withdraw(buffer: &mut [u8], ledger: &mut [u8], lines: u64) -> Result<(), u32> {
@@ -94,20 +107,28 @@ pub fn withdraw(buffer: &mut [u8], ledger: &mut [u8], lines: u64) -> Result<(), 
     match ledger::last_standing(&entries) {
         None => Err(22),
         Some(Entry::Correction { pixel, old, new }) => {
-            let place = pixel as usize;
-            if place >= held.pixels.len() {
-                return Err(24);
-            }
-            if held.pixels[place] != new {
-                return Err(23);
-            }
+            let place = held.corrected(pixel, new)?;
             let entry = Entry::Withdrawal;
-            change((buffer, ledger), lines, held, (place, old), entry)
+            change((buffer, ledger), lines, held, (place, old), &[entry])
         }
-        Some(_) if ledger::is_full(ledger, lines) => Err(21),
+        Some(_) if ledger::free(ledger, lines) == 0 => Err(21),
         Some(_) => {
             ledger::append(ledger, lines, Entry::Withdrawal);
             Ok(())
         }
     }
+}
+
+/// The two lines at once. The frame with the old count is never written, so nothing can be wrong with it.
+pub fn amend(buffer: &mut [u8], ledger: &mut [u8], lines: u64, count: u32) -> Result<(), u32> {
+    let held = take_up(buffer)?;
+    let entries = ledger::entries(ledger, lines)?;
+    let last = ledger::last_standing(&entries).ok_or(22u32)?;
+    let Entry::Correction { pixel, old, new } = last else {
+        return Err(31);
+    };
+    let place = held.corrected(pixel, new)?;
+    let new = count;
+    let entries = [Entry::Withdrawal, Entry::Correction { pixel, old, new }];
+    change((buffer, ledger), lines, held, (place, count), &entries)
 }

@@ -111,8 +111,9 @@ pub fn entries(ledger: &[u8], lines: u64) -> Result<Vec<Entry>, u32> {
     Ok(found)
 }
 
-pub fn is_full(ledger: &[u8], lines: u64) -> bool {
-    lines >= (ledger.len() / BYTES) as u64
+/// How many further lines the bytes hold.
+pub fn free(ledger: &[u8], lines: u64) -> u64 {
+    ((ledger.len() / BYTES) as u64).saturating_sub(lines)
 }
 
 pub fn append(ledger: &mut [u8], lines: u64, entry: Entry) {
@@ -125,7 +126,7 @@ pub fn keep(ledger: &mut [u8], lines: u64, date: Date) -> Result<(), u32> {
     if !date.is_calendar() {
         return Err(25);
     }
-    if is_full(ledger, lines) {
+    if free(ledger, lines) == 0 {
         return Err(21);
     }
     append(ledger, lines, Entry::Keep(date));

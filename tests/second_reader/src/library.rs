@@ -136,12 +136,22 @@ fn ledger_numbers(answer: LedgerAnswer) -> Vec<u64> {
     vec![u64::from(answer.refusal), answer.lines]
 }
 
-pub fn correct(held: &mut [u8], ledger: &mut [u8], lines: u64, pixel: u64, count: u32) -> Answer {
+/// A call that is lent a held frame and its ledger.
+fn change_by(
+    call: impl Fn(&mut [u8], &mut [u8]) -> LedgerAnswer,
+    held: &mut [u8],
+    ledger: &mut [u8],
+) -> Answer {
     let mut a = Lent::new(held, BYTE);
     let mut b = Lent::new(ledger, BYTE);
-    let r = quayrudder::correct(a.middle(), b.middle(), lines, pixel, count);
+    let r = call(a.middle(), b.middle());
     let respected = a.give_back(held) & b.give_back(ledger);
     (ledger_numbers(r), respected)
+}
+
+pub fn correct(held: &mut [u8], ledger: &mut [u8], lines: u64, pixel: u64, count: u32) -> Answer {
+    let call = |h: &mut [u8], l: &mut [u8]| quayrudder::correct(h, l, lines, pixel, count);
+    change_by(call, held, ledger)
 }
 
 pub fn keep(ledger: &mut [u8], lines: u64, day: (u32, u32, u32)) -> Answer {
@@ -151,11 +161,11 @@ pub fn keep(ledger: &mut [u8], lines: u64, day: (u32, u32, u32)) -> Answer {
 }
 
 pub fn withdraw(held: &mut [u8], ledger: &mut [u8], lines: u64) -> Answer {
-    let mut a = Lent::new(held, BYTE);
-    let mut b = Lent::new(ledger, BYTE);
-    let r = quayrudder::withdraw(a.middle(), b.middle(), lines);
-    let respected = a.give_back(held) & b.give_back(ledger);
-    (ledger_numbers(r), respected)
+    change_by(|h, l| quayrudder::withdraw(h, l, lines), held, ledger)
+}
+
+pub fn amend(held: &mut [u8], ledger: &mut [u8], lines: u64, count: u32) -> Answer {
+    change_by(|h, l| quayrudder::amend(h, l, lines, count), held, ledger)
 }
 
 pub fn may_purge(ledger: &[u8], lines: u64, day: (u32, u32, u32)) -> Answer {

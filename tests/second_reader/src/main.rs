@@ -1,6 +1,7 @@
 //! Holds the library against a second reader: `compare --seed N --seconds S`, `replay FILE`, and frames in files.
 #![forbid(unsafe_code)]
 
+mod amend_trials;
 mod case;
 mod compare;
 mod dtrek;
@@ -36,10 +37,11 @@ use std::time::{Duration, Instant, SystemTime, UNIX_EPOCH};
 use tally::Tally;
 
 const USAGE: &str =
-    "second_reader compare [--seed N] [--seconds S] [--fault 1..5] [--case FILE] [--trace 1]\n\
-                     second_reader replay FILE [--fault 1..5]\n\
+    "second_reader compare [--seed N] [--seconds S] [--fault 1..6] [--case FILE] [--trace 1]\n\
+                     second_reader replay FILE [--fault 1..6]\n\
                      second_reader mar-trials\n\
                      second_reader dtrek-trials\n\
+                     second_reader amend-trials\n\
                      second_reader expand FRAME PIXELS\n\
                      second_reader expand-dtrek FILE PIXELS\n\
                      second_reader store HEADER PIXELS WIDTH UNDERFLOW FRAME";
@@ -195,6 +197,7 @@ fn run(words: &[&str]) -> Option<ExitCode> {
         ["replay", file, rest @ ..] => Some(run_replay(file, &options(rest)?)),
         ["mar-trials"] => Some(verdict(Ok(mar_trials::run()))),
         ["dtrek-trials"] => Some(verdict(Ok(dtrek_trials::run()))),
+        ["amend-trials"] => Some(verdict(Ok(amend_trials::run()))),
         ["expand", frame, pixels] => Some(verdict(files::expand(Call::Read, frame, pixels))),
         ["expand-dtrek", file, pixels] => {
             Some(verdict(files::expand(Call::DtrekRead, file, pixels)))

@@ -13,8 +13,13 @@ pub struct Model {
 }
 
 impl Model {
-    fn is_full(&self) -> bool {
-        self.lines >= (self.ledger_length / ledger::BYTES) as u64
+    /// 21 where the ledger has no room for so many lines more.
+    fn must_have_room(&self, lines: u64) -> Result<(), u32> {
+        let room = (self.ledger_length / ledger::BYTES) as u64;
+        if self.lines + lines > room {
+            return Err(21);
+        }
+        Ok(())
     }
 
     pub fn pixels(&self) -> Vec<u32> {
@@ -42,13 +47,15 @@ impl Model {
         if pixel >= self.opened.len() as u64 {
             return Err(24);
         }
-        if self.is_full() {
-            return Err(21);
-        }
+        self.must_have_room(1)?;
+        self.push_correction(pixel as u32, new)
+    }
+
+    /// The correction over the stack as it is, if its frame can be written: 17, 18.
+    fn push_correction(&mut self, pixel: u32, new: u32) -> Result<Entry, u32> {
         let mut pixels = self.pixels();
         let old = std::mem::replace(&mut pixels[pixel as usize], new);
         self.held(&pixels)?;
-        let pixel = pixel as u32;
         let entry = Entry::Correction { pixel, old, new };
         self.stack.push(entry);
         self.lines += 1;
@@ -59,9 +66,7 @@ impl Model {
         if !date.is_calendar() {
             return Err(25);
         }
-        if self.is_full() {
-            return Err(21);
-        }
+        self.must_have_room(1)?;
         self.stack.push(Entry::Keep(date));
         self.lines += 1;
         Ok(Entry::Keep(date))
@@ -71,12 +76,30 @@ impl Model {
         if self.stack.is_empty() {
             return Err(22);
         }
-        if self.is_full() {
-            return Err(21);
-        }
+        self.must_have_room(1)?;
         self.stack.pop();
         self.lines += 1;
         Ok(Entry::Withdrawal)
+    }
+
+    /// A withdrawal and a correction, of which only the frame after both is judged.
+    pub fn amend(&mut self, new: u32) -> Result<[Entry; 2], u32> {
+        let last = *self.stack.last().ok_or(22u32)?;
+        let Entry::Correction { pixel, .. } = last else {
+            return Err(31);
+        };
+        self.must_have_room(2)?;
+        self.stack.pop();
+        match self.push_correction(pixel, new) {
+            Ok(entry) => {
+                self.lines += 1;
+                Ok([Entry::Withdrawal, entry])
+            }
+            Err(refusal) => {
+                self.stack.push(last);
+                Err(refusal)
+            }
+        }
     }
 
     pub fn may_purge(&self, asked: Date) -> Result<(), u32> {

@@ -28,6 +28,20 @@ pub struct Layout {
 }
 
 impl Layout {
+    /// A row of so many pixels below a header of 15 blocks.
+    pub fn one_row(columns: usize, (width, underflow): (u32, u32), baseline: u32) -> Layout {
+        Layout {
+            format: 100,
+            blocks: 15,
+            rows: 1,
+            columns,
+            width,
+            underflow,
+            baseline,
+            counts: vec![if underflow == 0 { -1 } else { 0 }, 0, 0],
+        }
+    }
+
     pub fn pixels(&self) -> usize {
         self.rows * self.columns
     }

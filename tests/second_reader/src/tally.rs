@@ -24,6 +24,7 @@ fn possible(call: Call) -> Vec<u64> {
         Call::Correct => vec![0, 17, 18, 19, 20, 21, 24],
         Call::Keep => vec![0, 20, 21, 25],
         Call::Withdraw => vec![0, 17, 18, 19, 20, 21, 22, 23, 24],
+        Call::Amend => vec![0, 17, 18, 19, 20, 21, 22, 23, 24, 31],
         Call::Purge => vec![0, 20, 25, 26, 27],
         Call::Header => (0..=9).collect(),
         // 0, and 1 where the buffer is too short.
@@ -101,7 +102,7 @@ impl Tally {
         let calls = &CALLS[..CALLS.len() - 1];
         calls.iter().for_each(|(_, name)| print!("{name:>11}"));
         println!();
-        for refusal in (0..=29).chain(32..=35).chain([37]) {
+        for refusal in (0..=29).chain(31..=35).chain([37]) {
             print!("{refusal:>8}");
             for (call, _) in calls {
                 match (

@@ -4,21 +4,14 @@ use crate::compare;
 use crate::dtrek;
 use crate::frame::{self, refuse, Refusal};
 use crate::generate;
+use crate::held;
 use crate::ledger::{self, Date, Entry};
+use crate::model::Model;
 use crate::random::Random;
 use crate::sample::{self, Layout};
 
 fn one_row(columns: usize, width: u32, underflow: u32) -> Layout {
-    Layout {
-        format: 100,
-        blocks: 15,
-        rows: 1,
-        columns,
-        width,
-        underflow,
-        baseline: 32,
-        counts: vec![if underflow == 0 { -1 } else { 0 }, 0, 0],
-    }
+    Layout::one_row(columns, (width, underflow), 32)
 }
 
 /// The bytes after the header that the writer gives for these pixels.
@@ -97,6 +90,52 @@ fn standing_after_two_withdrawals() {
     let gone = Entry::Withdrawal;
     let lines = [correction(1), keep, correction(2), gone, gone];
     assert_eq!(ledger::standing(&lines), [correction(1)]);
+}
+
+#[test]
+fn an_amend_keeps_the_count_before() {
+    let header = sample::header(&mut Random(1), &one_row(2, 4, 0));
+    let mut held = vec![0; header.len() + 8];
+    assert!(frame::write(&header, &[5, 8], 4, 0, &mut held).is_ok());
+    let correction = |new| Entry::Correction {
+        pixel: 1,
+        old: 7,
+        new,
+    };
+    let mut ledger = correction(8).bytes().to_vec();
+    ledger.resize(4 * 16, 0);
+    assert_eq!(held::amend(&mut held, &mut ledger, 0, 9), Err(22));
+    assert_eq!(held::amend(&mut held, &mut ledger, 1, 9), Ok(()));
+    assert_eq!(held[header.len()..], [5, 0, 0, 0, 9, 0, 0, 0]);
+    let lines = vec![correction(8), Entry::Withdrawal, correction(9)];
+    assert_eq!(ledger::entries(&ledger, 3), Ok(lines));
+    assert_eq!(held::amend(&mut held, &mut ledger, 3, 9), Err(21));
+    assert_eq!(ledger::keep(&mut ledger, 3, day(2031, 11, 2)), Ok(()));
+    assert_eq!(held::amend(&mut held, &mut ledger, 4, 9), Err(31));
+}
+
+#[test]
+fn the_model_amends_only_a_correction_on_top() {
+    let mut model = Model {
+        header: sample::header(&mut Random(1), &one_row(2, 4, 0)),
+        opened: vec![5, 7],
+        form: (4, 0),
+        held_length: 7688,
+        ledger_length: 5 * 16,
+        stack: Vec::new(),
+        lines: 0,
+    };
+    assert_eq!(model.amend(9), Err(22));
+    assert!(model.keep(day(2031, 11, 2)).is_ok() && model.amend(9) == Err(31));
+    assert!(model.correct(1, 8).is_ok());
+    let (pixel, old, new) = (1, 7, 9);
+    let correction = Entry::Correction { pixel, old, new };
+    assert_eq!(model.amend(9), Ok([Entry::Withdrawal, correction]));
+    assert_eq!((model.pixels(), model.lines), (vec![5, 9], 4));
+    assert_eq!(model.amend(9), Err(21));
+    model.held_length = 7687;
+    model.ledger_length = 6 * 16;
+    assert_eq!((model.amend(9), model.pixels()), (Err(18), vec![5, 9]));
 }
 
 const DTREK: &[u8] =
