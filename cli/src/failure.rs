@@ -124,9 +124,10 @@ impl Failure {
 impl Refused {
     /// What was asked for cannot be had (1), or the bytes are not what they must be.
     fn status(&self) -> u8 {
-        match self.number {
-            10 | 16 | 17 | 18 | 21 | 22 | 24 | 25 | 26 | 27 | 31 | 37 => NO,
-            _ => DAMAGED,
+        if self.said.damage {
+            DAMAGED
+        } else {
+            NO
         }
     }
 

@@ -8,7 +8,7 @@ use crate::holding::{Change, Holding};
 use crate::ledger::{self, Entry, Lent, Line};
 use crate::names::{self, Doubled, Item};
 use crate::output::Output;
-use crate::refusals::{sentence, Sentences};
+use crate::refusals::{sentence, withdraw_sentence, Sentences};
 use crate::room;
 use crate::shard::Shard;
 use quayrudder::Date;
@@ -103,7 +103,7 @@ fn withdrawn(holding: &Holding) -> Outcome<Said> {
     let (owned, mut found) = holding.change()?;
     let mut lent = Lent::new(found.ledger.clone(), 1);
     let answer = room::lend(&mut found.held, |held| quayrudder::withdraw(held, &mut lent.bytes, lent.lines));
-    accepted(holding, answer.refusal, &lent.bytes)?;
+    accepted_or(holding, answer.refusal, &lent.bytes, withdraw_sentence)?;
     let ledger = lent.used(answer.lines);
     owned.commit(found.state, &Change { held: Some(&found.held), ledger: Some(ledger), notes: found.notes() })?;
     let taken = ledger::last_standing(&ledger::listing(&found.ledger));

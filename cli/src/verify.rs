@@ -3,10 +3,11 @@ use crate::args::Verify;
 use crate::batch;
 use crate::failure::{shown, Failure, Outcome, DAMAGED};
 use crate::holding::{Change, Contents, Holding};
-use crate::holdings::accepted;
+use crate::holdings::{accepted, accepted_or};
 use crate::ledger::{self, Lent};
 use crate::names::{self, Found, Item};
 use crate::output::Output;
+use crate::refusals::withdraw_sentence;
 use crate::room;
 use crate::shard::Shard;
 use crate::sums;
@@ -111,7 +112,7 @@ fn checked(holding: &Holding, found: Contents, sums: Sealed) -> Outcome<Verdict>
     let mut lent = Lent::new(found.ledger, lines);
     let refusal = withdraw_all(&mut held, &mut lent);
     if refusal != 22 {
-        accepted(holding, refusal, &lent.bytes)?;
+        accepted_or(holding, refusal, &lent.bytes, withdraw_sentence)?;
     }
     Ok(Verdict { lines, standing: lent.lines - lines, sums, frame })
 }

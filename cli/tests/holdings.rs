@@ -192,12 +192,28 @@ fn each_refusal_of_an_amend_has_its_sentence() {
     untouched(&f, "amend a 1", 20, "a.ledger: refusal 20: the ledger is malformed (it has 83 bytes");
     let pixel_16 = (16u128 << 81 | 75 << 49 | 8 << 17).to_be_bytes();
     f.put("a.ledger", [&ledger[..], &pixel_16].concat());
-    untouched(&f, "amend a 1", 24, "a.held: refusal 24: the frame has no such pixel as the last standing line has");
+    for words in ["amend a 1", "withdraw a", "verify a"] {
+        damaged(&f, words, "a.held: refusal 24: the frame has no such pixel as the last standing line has");
+    }
+    let scrubbed = f.run("verify .");
+    assert!(scrubbed.status == Some(4) && scrubbed.out.contains("1 damaged"), "{scrubbed:?}");
     f.put("a.ledger", &ledger);
     f.put("a.held", plain_held(&held));
     untouched(&f, "amend a 1", 23, "a.held: refusal 23: the pixel is not the count that its ledger line says");
     f.put("a.held", &held[..held.len() - 1]);
     untouched(&f, "amend a 1", 19, "a.held: refusal 19: the held file is no frame as the writer makes it");
+}
+
+#[test]
+fn an_old_count_that_the_frame_cannot_hold_is_damage() {
+    let f = folder();
+    f.put("a.sfrm", frame(Header::new(1, 1).line(79, "NEXP   :1 0 300"), &[250]));
+    f.done("open a.sfrm --form 1+1 -o a");
+    f.without_sums("a");
+    f.put("a.ledger", (256u128 << 49 | 250 << 17).to_be_bytes());
+    for words in ["withdraw a", "verify a"] {
+        damaged(&f, words, "a.held: refusal 17: the frame cannot hold the old count of the last standing line");
+    }
 }
 
 #[test]
@@ -209,6 +225,14 @@ fn an_amend_to_a_count_too_large_for_its_underflow_entry_is_refused() {
     untouched(&f, "amend a 256", 17, "a.held: refusal 17: an underflow entry is too large for one byte");
     f.done("amend a 255");
     assert_eq!(counts(&f), [255]);
+}
+
+/// Refused as damage, with these words, and no byte changed.
+fn damaged(f: &Folder, words: &str, part: &str) {
+    let files = || (f.get("a.held"), f.get("a.ledger"));
+    let (before, ran) = (files(), f.run(words));
+    assert!(ran.status == Some(4) && ran.err.contains(part), "{words}: {ran:?}");
+    assert_eq!(before, files(), "{words}");
 }
 
 /// The held bytes with pixel 15 as it was opened.
