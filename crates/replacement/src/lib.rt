@@ -17,12 +17,12 @@ ghost use Rattle.replacement.specs.Replace.{meets, replaceAnswer, replac
 ghost use Rattle.replacement.specs.Answered.{lengthAfter, placedAnswer, placedBytes};
 use canonical::Located;
 use canonical::Place;
+use header_text::Counts;
 use layout::EntryWidth;
 use layout::Form;
 use layout::Underflow;
 use layout::Width;
 use refusal::Refusal;
-use header_text::Counts;
 
 // What the pixel must hold for its count to be replaced.
 pub enum Expected {

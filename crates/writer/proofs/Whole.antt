@@ -57,6 +57,10 @@ pub relined-stored : (form : Form) (s : Stored) (header : List ℕ) → relined 
 unfolding relined rewritten noverflData countsData
 relined-stored form s header = refl
 
+-- the two lines rewritten in a copy of a header that reaches to their end
+pub relined-copy : (form : Form) (c : Counts) (header copied out : List ℕ) → 3200 ≤ length header → copied ≡ header → out ≡ if_then_else_ (leb 3200 (length copied)) (relined form c copied) copied → out ≡ relined form c header
+relined-copy form c header copied out h e q = q ∙ rw (e, le-leb 3200 (length header) h)
+
 -- counts
 
 from-less : (base limit : ℕ) (vs : List ℕ) → 0 < limit → length (only (leb limit) (map (less base) vs)) ≡ length (only (leb (base + limit)) vs)
