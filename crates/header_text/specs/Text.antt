@@ -20,7 +20,7 @@ use Rattle.header_text.specs.declared.Counts.{Counts}
 abbrev pub spaces : ℕ → List ℕ
 spaces n = replicate n 32
 
--- a text at the left of a cell of 24 characters, the rest spaces
+-- a text with spaces behind it, up to the 24 characters of a cell
 unfoldable pub cell : List ℕ → List ℕ
 cell text = text ++ spaces (24 - length text)
 
