@@ -18,7 +18,8 @@ use Rattle.table.specs.Table.{allZero}
 use Rattle.table.specs.Writing.{tableOf, paddedTable}
 use Rattle.expand.specs.Steps.{Stored}
 use Rattle.expand.specs.Expand.{storedOf, tablePaddingZero, paddingZero}
-use Rattle.writer.specs.Frame.{underflowBytes, rewritten, bodyBytes, frameBytes}
+use Rattle.header_text.specs.Text.{underflowBytes}
+use Rattle.writer.specs.Frame.{rewritten, bodyBytes, frameBytes}
 use Rattle.canonical.proofs.Bytes.{Bytes, bytes-drop, table-again, zeros-are, padded-again}
 
 module _ (held : List ℕ) (i : Image) (t : BinaryTables) (form : Form) (bytes : Bytes held) (width : form .width ≡ i .width)

@@ -41,11 +41,13 @@ use Rattle.expand.specs.Expand.{storedOf, paddingZero, partsWhole, appliesC, ba
 use Rattle.reader.specs.Reader.{readAnswer}
 use Rattle.writer.specs.declared.AskedForm.{AskedForm}
 use Rattle.writer.specs.declared.AskedForm.the-variants as F
-use Rattle.writer.specs.declared.Counts.{Counts}
+use Rattle.header_text.specs.declared.Counts.{Counts}
 use Rattle.writer.specs.Storing.{storedFor}
-use Rattle.writer.specs.Frame.{underflowBytes, storedCounts, relined, rewritten, linesWritten, bodyBytes, frameBytes}
+use Rattle.header_text.specs.Text.{underflowBytes, relined, linesWritten}
+use Rattle.writer.specs.Frame.{storedCounts, rewritten, bodyBytes, frameBytes}
 use Rattle.writer.specs.Writer.{frame, refused, base, baseFor, anyAbove255, underflowTooLarge, madeWith, writerFrame}
-use Rattle.writer.proofs.Lines.{relined-stored, lines-same, same-lines}
+use Rattle.header_text.proofs.Lines.{lines-same, same-lines}
+use Rattle.writer.proofs.Whole.{relined-stored}
 use Rattle.readback.specs.Written.{Pixels, baseOf, baseNumber, storedIn, imageFor, tablesFor, headerFor}
 use Rattle.readback.specs.Held.{namedBy, heldCount, heldForm, heldPixels, isRead, isFrame, isHeld}
 use Rattle.readback.proofs.Tables.{zero-zeros}

@@ -38,8 +38,9 @@ use Rattle.expand.specs.declared.PartsAnswer.{PartsAnswer}
 use Rattle.expand.specs.declared.PartsAnswer.the-variants as P
 use Rattle.expand.proofs.Parts.{between, Inside, inside, parts-there, parts-are, end-is}
 use Rattle.expand.proofs.Whole.{tail-is}
-use Rattle.writer.specs.declared.Counts.{Counts}
-use Rattle.writer.specs.Frame.{storedCounts, linesWritten}
+use Rattle.header_text.specs.declared.Counts.{Counts}
+use Rattle.header_text.specs.Text.{linesWritten}
+use Rattle.writer.specs.Frame.{storedCounts}
 use Rattle.writer.specs.Blocks.{givenBaseline}
 use Rattle.writer.proofs.Whole.{tables-low}
 use Rattle.canonical.specs.Check.{statedCounts, restCanonical, checkForm, kindForm, checkTables, checkHeader, checked}

@@ -27,7 +27,7 @@ use Rattle.expand.proofs.Whole.{tail-is}
 use Rattle.writer.specs.Storing.{only}
 use Rattle.writer.specs.Blocks.{underCount, twoCount}
 use Rattle.writer.specs.Frame.{storedCounts}
-use Rattle.writer.specs.declared.Counts.{Counts}
+use Rattle.header_text.specs.declared.Counts.{Counts}
 use Rattle.tally.specs.Tally.{isOutside, tallyOf, tallyMore}
 use Rattle.tally.specs.declared.Tally.{Tally}
 use Rattle.tally.proofs.Laws.{tally-append, Few, tally-few}

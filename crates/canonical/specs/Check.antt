@@ -24,8 +24,9 @@ use Rattle.header.specs.Header.{headerOf}
 use Rattle.table.specs.Table.{allZero}
 use Rattle.expand.specs.Steps.{Stored, count}
 use Rattle.expand.specs.Expand.{storedOf, partsWhole}
-use Rattle.writer.specs.declared.Counts.{Counts}
-use Rattle.writer.specs.Frame.{storedCounts, linesWritten}
+use Rattle.header_text.specs.declared.Counts.{Counts}
+use Rattle.header_text.specs.Text.{linesWritten}
+use Rattle.writer.specs.Frame.{storedCounts}
 use Rattle.writer.specs.Blocks.{underCount, twoCount}
 use Rattle.canonical.specs.declared.Place.{Place}
 use Rattle.canonical.specs.declared.Located.{Located}

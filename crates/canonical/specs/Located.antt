@@ -16,7 +16,7 @@ use Rattle.header.specs.Header.{headerOf}
 use Rattle.expand.specs.Expand.{baselineOf}
 use Rattle.writer.specs.declared.AskedForm.{AskedForm}
 use Rattle.writer.specs.declared.AskedForm.the-variants as F
-use Rattle.writer.specs.declared.Counts.{Counts}
+use Rattle.header_text.specs.declared.Counts.{Counts}
 use Rattle.writer.specs.Storing.{storedFor}
 use Rattle.writer.specs.Frame.{storedCounts}
 use Rattle.readback.specs.Held.{heldCount, heldForm, heldPixels, isHeld}

@@ -18,6 +18,7 @@ ghost use Rattle.canonical.specs.Parts.{underBytes, partsStored, seenOf,
 use expand::PartsAnswer;
 use expand::Places;
 use header::HeaderAnswer;
+use header_text::Counts;
 use layout::BinaryTables;
 use layout::Form;
 use layout::Image;
@@ -26,7 +27,6 @@ use layout::Underflow;
 use layout::Underflows;
 use layout::Width;
 use tally::Tally;
-use writer::Counts;
 
 // A pixel of a held frame: the form, the numbers of pixels and of entries, the entries of the pixels before it, and its count.
 // Kind none has the baseline 0.
@@ -403,7 +403,7 @@ fn check_form(
     let start = p.image;
     let end = four.end;
     let entries = stated_counts(t);
-    if !writer::is_rewritten(&held[..start], form, entries) {
+    if !header_text::is_rewritten(&held[..start], form, entries) {
         return Located::NotCanonical;
     }
     if !table::all_zero(&held[end..]) {

@@ -23,7 +23,8 @@ use Rattle.expand.specs.Steps.{Stored, afterC, exhausted, sumsTooLarge}
 use Rattle.expand.specs.Expand.{storedOf, paddingZero, tablePaddingZero, appliesC, baselineOf, binaryAnswer, binaryPixels}
 use Rattle.expand.specs.declared.Expanded.the-variants.{Frame}
 use Rattle.writer.specs.Storing.{storedFor, underEntries}
-use Rattle.writer.specs.Frame.{underflowBytes, bodyBytes}
+use Rattle.header_text.specs.Text.{underflowBytes}
+use Rattle.writer.specs.Frame.{bodyBytes}
 use Rattle.readback.specs.Written.{underflowsFor, imageFor, tablesFor}
 use Rattle.readback.proofs.Storing.{Below, all-three, subtracts, steps-back, all-taken, sums-fit, image-fits, two-fits, four-fits, image-count}
 use Rattle.readback.proofs.Tables.{entries-table, length-table, length-padded, entries-padded, padding-zero}

@@ -21,7 +21,7 @@ use Rattle.field.specs.declared.Field.the-variants.{Found}
 use Rattle.field.specs.declared.NumberField.the-variants as N
 use Rattle.field.specs.declared.CountField.the-variants as C
 use Rattle.field.specs.Fields.{fieldFrom, between, numberField, countField}
-use Rattle.writer.specs.Frame.{spaces}
+use Rattle.header_text.specs.Text.{spaces}
 
 -- decimal digits
 

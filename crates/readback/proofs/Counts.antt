@@ -24,7 +24,8 @@ use Rattle.header.specs.declared.CountsAnswer.the-variants as CA
 use Rattle.header.specs.declared.WidthsAnswer.the-variants as WA
 use Rattle.header.specs.Body.{counts100, binaryCounts, widths100, widths}
 use Rattle.expand.specs.Steps.{Stored}
-use Rattle.writer.specs.Frame.{spaces, cell, underflowText, underflowBytes, noverflData, npixelbData}
+use Rattle.header_text.specs.Text.{spaces, cell, underflowText, underflowBytes, npixelbData}
+use Rattle.writer.specs.Frame.{noverflData}
 use Rattle.readback.proofs.Cells.{Solid, number-decimal, solid-decimal, decimal-some, decimal-length, decimal-plain, number-read, count-read, minus-read, from-end}
 
 -- one less than the spaces of a cell

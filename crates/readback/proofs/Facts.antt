@@ -33,7 +33,8 @@ use Rattle.reader.specs.declared.ReadAnswer.the-variants as S
 use Rattle.reader.specs.Reader.{readAnswer, readPixels}
 use Rattle.writer.specs.declared.AskedForm.the-variants as F
 use Rattle.writer.specs.Storing.{storedFor}
-use Rattle.writer.specs.Frame.{underflowBytes, rewritten, bodyBytes, frameBytes, frameLength}
+use Rattle.header_text.specs.Text.{underflowBytes}
+use Rattle.writer.specs.Frame.{rewritten, bodyBytes, frameBytes, frameLength}
 use Rattle.writer.specs.Writer.{Made, frame, refused, Base, base, noBase, baseFor, underflowTooLarge, madeWith, writerFrame}
 use Rattle.readback.specs.Written.{Pixels, headerBytes, baseOf, baseNumber, storedIn, underflowsFor, imageFor, tablesFor, headerFor}
 use Rattle.readback.proofs.Storing.{Below, below-all, under-count, two-count, four-count}

@@ -39,7 +39,8 @@ use Rattle.header.specs.Body.{countsIn, widths, widthsIn, baselineOf, baselineI
 use Rattle.header.specs.Ranges.{isSize, underflowsFrom, underflowsOf, rangedOf}
 use Rattle.header.specs.Header.{scaledOf, numbers, bodyOf, headerOf}
 use Rattle.expand.specs.Steps.{Stored}
-use Rattle.writer.specs.Frame.{underflowBytes, rewritten}
+use Rattle.header_text.specs.Text.{underflowBytes}
+use Rattle.writer.specs.Frame.{rewritten}
 use Rattle.readback.specs.Written.{underflowsFor, headerFor}
 use Rattle.readback.proofs.Counts.{countFor, counts-read, widths-read}
 use Rattle.readback.proofs.Rewriting.{Agree, part-of, rewritten-agree, noverfl-there, npixelb-there}

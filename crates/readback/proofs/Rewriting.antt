@@ -10,7 +10,8 @@ use Rattle.layout.specs.declared.Form.{Form}
 use Rattle.expand.specs.Steps.{Stored}
 use Rattle.header_lines.specs.declared.LineId.the-variants as I
 use Rattle.header_lines.specs.Lines.{lineOf}
-use Rattle.writer.specs.Frame.{noverflData, npixelbData, withData, rewritten}
+use Rattle.header_text.specs.Text.{npixelbData, withData}
+use Rattle.writer.specs.Frame.{noverflData, rewritten}
 use Rattle.readback.proofs.Counts.{length-noverfl, length-npixelb}
 
 -- a header with the data of the two lines as parts of their own

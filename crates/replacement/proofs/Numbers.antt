@@ -15,7 +15,7 @@ use Rattle.layout.specs.declared.Underflow.{Underflow}
 use Rattle.layout.specs.declared.Underflow.the-variants as U
 use Rattle.layout.specs.Layout.{tableBytes}
 use Rattle.splice.proofs.Fits.{fits-then, pad-bounds}
-use Rattle.writer.specs.Frame.{underflowBytes}
+use Rattle.header_text.specs.Text.{underflowBytes}
 use Rattle.writer.specs.Writer.{anyAbove255}
 use Rattle.replacement.specs.declared.Cut.{Cut}
 use Rattle.replacement.specs.Replaced.{cutLen, lenThen, lenNow, CutFits, LastFits, FirstFits}

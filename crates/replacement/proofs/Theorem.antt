@@ -24,11 +24,12 @@ use Rattle.header_lines.specs.Lines.{lineOf, positionOf}
 use Rattle.expand.specs.Steps.{Stored}
 use Rattle.splice.specs.Moves.{padded}
 use Rattle.splice.proofs.Tables.{tested, held-over, padded-table}
-use Rattle.writer.specs.declared.Counts.{Counts}
+use Rattle.header_text.specs.declared.Counts.{Counts}
 use Rattle.writer.specs.Storing.{storedFor}
-use Rattle.writer.specs.Frame.{underflowBytes, storedCounts, countsData, npixelbData, withData, relined, rewritten, bodyBytes, frameBytes}
-use Rattle.writer.proofs.Cells.{length-counts}
-use Rattle.writer.proofs.Lines.{relined-stored}
+use Rattle.header_text.specs.Text.{underflowBytes, countsData, npixelbData, withData, relined}
+use Rattle.writer.specs.Frame.{storedCounts, rewritten, bodyBytes, frameBytes}
+use Rattle.header_text.proofs.Cells.{length-counts}
+use Rattle.writer.proofs.Whole.{relined-stored}
 use Rattle.readback.proofs.Storing.{image-count}
 use Rattle.readback.proofs.Body.{length-body}
 use Rattle.readback.proofs.Rewriting.{rewritten-agree, rewritten-twice}

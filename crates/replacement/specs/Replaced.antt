@@ -12,10 +12,11 @@ use Rattle.layout.specs.Form.{widthBytes}
 use Rattle.layout.specs.Layout.{tableBytes}
 use Rattle.splice.specs.Moves.{tableEdited, editFits}
 use Rattle.expand.specs.Steps.{Stored}
-use Rattle.writer.specs.declared.Counts.{Counts}
+use Rattle.header_text.specs.declared.Counts.{Counts}
 use Rattle.writer.specs.Storing.{lowered, atMost65535, storedValue, storedFor}
 use Rattle.writer.specs.Writer.{underflowTooLarge}
-use Rattle.writer.specs.Frame.{underflowBytes, storedCounts, frameBytes, relined}
+use Rattle.header_text.specs.Text.{underflowBytes, relined}
+use Rattle.writer.specs.Frame.{storedCounts, frameBytes}
 use Rattle.canonical.specs.declared.Place.{Place}
 use Rattle.replacement.specs.declared.Cut.{Cut}
 

@@ -10,19 +10,19 @@ ghost use Rattle.lists.specs.Bytes.{paddedTo};
 ghost use Rattle.layout.specs.Form.{widthBytes};
 ghost use Rattle.layout.specs.Layout.{tableBytes};
 ghost use Rattle.writer.specs.Storing.{lowered, storedValue, underEntries, twoEntries, fourEntries};
-ghost use Rattle.writer.specs.Frame.{underflowBytes};
+ghost use Rattle.header_text.specs.Text.{underflowBytes};
 ghost use Rattle.writer.specs.Writer.{underflowTooLarge};
 ghost use Rattle.replacement.specs.Replaced.{lenThen, lenNow, cutIn, lastFirst, firstFirst, cutAll, CutFits, LastFits, FirstFits, AllFit, cutOf, entriesOne, countsAfter, underCut, twoCut, fourCut, imageStop, entriesAfter, imageReplaced, replacedBytes, lengthWith, Placed};
 ghost use Rattle.replacement.specs.Replace.{meets, replaceAnswer, replaceBytes};
 ghost use Rattle.replacement.specs.Answered.{lengthAfter, placedAnswer, placedBytes};
 use canonical::Located;
 use canonical::Place;
+use header_text::Counts;
 use layout::EntryWidth;
 use layout::Form;
 use layout::Underflow;
 use layout::Width;
 use refusal::Refusal;
-use writer::Counts;
 
 // What the pixel must hold for its count to be replaced.
 pub enum Expected {
@@ -360,7 +360,7 @@ fn put_pixel(held: &mut [u8], place: Place, pixel: u32, v: u32, after: Counts)
     let start = place.start as usize;
     put_image(held, place, pixel, v);
     put_tables(held, place, v);
-    writer::rewrite(&mut held[..start], form, after);
+    header_text::rewrite(&mut held[..start], form, after);
 }
 
 fn differs(expected: Expected, old: u32) -> bool

@@ -19,7 +19,7 @@ use Rattle.layout.specs.declared.Underflow.the-variants as U
 use Rattle.layout.specs.declared.Form.{Form}
 use Rattle.writer.specs.Storing.{only, isUnderflow, storedValue}
 use Rattle.writer.specs.Blocks.{countsOf, countsMore, countsFor, underCount, twoCount, fourCount}
-use Rattle.writer.specs.declared.Counts.{Counts}
+use Rattle.header_text.specs.declared.Counts.{Counts}
 
 pub only-append : (p : ℕ → Bool) (xs ys : List ℕ) → only p (xs ++ ys) ≡ only p xs ++ only p ys
 unfolding only

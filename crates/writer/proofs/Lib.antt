@@ -3,7 +3,5 @@ pub mod Over
 pub mod Placing
 pub mod Pixel
 pub mod Runs
-pub mod Cells
-pub mod Lines
 pub mod Judging
 pub mod Whole

@@ -17,7 +17,7 @@ use Rattle.layout.specs.declared.Form.{Form}
 use Rattle.layout.specs.Form.{widthBytes, entryBytes}
 use Rattle.table.specs.Writing.{tableOf}
 use Rattle.writer.specs.Storing.{only, atMost65535, storedValue, twoEntries, fourEntries, underEntries, loweredAll, storedFor}
-use Rattle.writer.specs.Frame.{underflowBytes}
+use Rattle.header_text.specs.Text.{underflowBytes}
 use Rattle.writer.specs.Blocks.{Room, ValuesRoom, putValues, placesPast}
 use Rattle.writer.specs.declared.Places.{Places}
 use Rattle.writer.proofs.Over.{none-put}

@@ -24,7 +24,8 @@ use Rattle.table.specs.Writing.{tableOf, paddedTable}
 use Rattle.table.proofs.Storing.{length-table, table-append}
 use Rattle.expand.specs.Steps.{Stored}
 use Rattle.writer.specs.Storing.{only, isUnderflow, lowered, loweredAll, underEntries, twoEntries, fourEntries, atMost65535, storedValue, storedFor}
-use Rattle.writer.specs.Frame.{underflowBytes, bodyBytes, frameLength}
+use Rattle.header_text.specs.Text.{underflowBytes}
+use Rattle.writer.specs.Frame.{bodyBytes, frameLength}
 use Rattle.writer.specs.Blocks.{less, usedBase, isPlain, putBlock, putValues, placesAfter, placesPast, placesBy, placesFor, Room, ValuesRoom}
 use Rattle.writer.specs.declared.Places.{Places}
 use Rattle.writer.proofs.Gathering.{only-append, take-split}

@@ -22,7 +22,7 @@ use Rattle.layout.specs.Form.{widthBytes}
 use Rattle.table.specs.Writing.{tableOf, lessWrapped}
 use Rattle.expand.specs.Steps.{Stored}
 use Rattle.writer.specs.Storing.{only, lowered, underEntries, storedFor}
-use Rattle.writer.specs.Frame.{underflowBytes}
+use Rattle.header_text.specs.Text.{underflowBytes}
 use Rattle.writer.specs.Blocks.{Room, usedBase, putBlock, placesAfter, lowestPlain, highestPlain, plainRange, isOutside, Without}
 use Rattle.writer.specs.declared.Places.{Places}
 use Rattle.writer.specs.declared.Range.{Range}

@@ -29,9 +29,10 @@ use Rattle.header_lines.specs.declared.LineId.{LineId}
 use Rattle.header_lines.specs.declared.LineId.the-variants as I
 use Rattle.header_lines.specs.Lines.{positionOf}
 use Rattle.writer.specs.Storing.{only, isUnderflow, lowered, loweredAll, underEntries, twoEntries, fourEntries, atMost65535, storedValue, storedFor}
-use Rattle.writer.specs.Frame.{underflowBytes, rewritten, relined, bodyBytes, frameBytes, frameLength, storedCounts}
+use Rattle.header_text.specs.Text.{underflowBytes, countsData, relined}
+use Rattle.writer.specs.Frame.{noverflData, rewritten, bodyBytes, frameBytes, frameLength, storedCounts}
 use Rattle.writer.specs.Blocks.{less, usedBase, countsOf, countsFor, underCount, twoCount, fourCount, placesBy, placesFor, baseAnswer, givenBaseline, tablesBaseline, Sized}
-use Rattle.writer.specs.declared.Counts.{Counts}
+use Rattle.header_text.specs.declared.Counts.{Counts}
 use Rattle.writer.specs.declared.Places.{Places}
 use Rattle.layout.specs.declared.Underflows.{Underflows}
 use Rattle.layout.specs.declared.Underflows.the-variants as H
@@ -48,8 +49,17 @@ use Rattle.header.proofs.Accepted.{BaselineGood, TablesGood, accepted-bounds}
 use Rattle.writer.specs.Writer as M
 use Rattle.writer.specs.Writer.{lineBase, baseFor, underflowTooLarge}
 use Rattle.writer.specs.declared.BaseAnswer.the-variants as B
-use Rattle.writer.proofs.Lines.{relined-stored, length-relined}
+use Rattle.header_text.proofs.Lines.{length-relined}
 use Rattle.writer.proofs.Placing.{lowered-is}
+
+-- the counts of what is stored
+pub relined-stored : (form : Form) (s : Stored) (header : List ℕ) → relined form (storedCounts s) header ≡ rewritten form s header
+unfolding relined rewritten noverflData countsData
+relined-stored form s header = refl
+
+-- the two lines rewritten in a copy of a header that reaches to their end
+pub relined-copy : (form : Form) (c : Counts) (header copied out : List ℕ) → 3200 ≤ length header → copied ≡ header → out ≡ if_then_else_ (leb 3200 (length copied)) (relined form c copied) copied → out ≡ relined form c header
+relined-copy form c header copied out h e q = q ∙ rw (e, le-leb 3200 (length header) h)
 
 -- counts
 

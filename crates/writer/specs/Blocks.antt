@@ -21,11 +21,12 @@ use Rattle.layout.specs.Layout.{tableBytes}
 use Rattle.table.specs.Writing.{tableOf}
 use Rattle.expand.specs.Steps.{Stored}
 use Rattle.writer.specs.Storing.{only, isUnderflow, storedValue, twoEntries, fourEntries}
-use Rattle.writer.specs.Frame.{underflowBytes, storedCounts}
+use Rattle.header_text.specs.Text.{underflowBytes}
+use Rattle.writer.specs.Frame.{storedCounts}
 use Rattle.writer.specs.Writer as M
 use Rattle.writer.specs.declared.BaseAnswer.{BaseAnswer}
 use Rattle.writer.specs.declared.BaseAnswer.the-variants as B
-use Rattle.writer.specs.declared.Counts.{Counts}
+use Rattle.header_text.specs.declared.Counts.{Counts}
 use Rattle.writer.specs.declared.Places.{Places}
 use Rattle.writer.specs.declared.Range.{Range}
 

@@ -1,49 +1,20 @@
 -- Document 01, "Writing and holding": the bytes of the writer's frame.
-use Prim.Native.Nat.{ℕ, _+_, _-_, _*_}
-use mathlib.Core.Bool.{Bool, _&&_}
+use Prim.Native.Nat.{ℕ, _+_, _*_}
 use mathlib.Core.List.{List, _++_}
-use lib.ListN.{length, take, drop, replicate}
-use lib.Dec.{leb}
-use Rattle.lists.specs.Text.{codes}
-use Rattle.lists.specs.Bytes.{sameBytes}
+use lib.ListN.{length}
 use Rattle.lists.specs.Digits.{digitsUpTo, decimal}
-use Rattle.layout.specs.declared.Underflow.{Underflow}
-use Rattle.layout.specs.declared.Underflow.the-variants as U
 use Rattle.layout.specs.declared.Form.{Form}
-use Rattle.layout.specs.Form.{widthBytes, entryBytes}
+use Rattle.layout.specs.Form.{widthBytes}
 use Rattle.layout.specs.Layout.{tableBytes}
 use Rattle.table.specs.Writing.{tableOf, paddedTable}
 use Rattle.expand.specs.Steps.{Stored}
-use Rattle.header_lines.specs.declared.LineId.{LineId}
 use Rattle.header_lines.specs.declared.LineId.the-variants as I
-use Rattle.header_lines.specs.Lines.{positionOf}
-use Rattle.writer.specs.declared.Counts.{Counts}
-
--- so many spaces
-abbrev pub spaces : ℕ → List ℕ
-spaces n = replicate n 32
-
--- a text at the left of a cell of 24 characters, the rest spaces
-unfoldable pub cell : List ℕ → List ℕ
-cell text = text ++ spaces (24 - length text)
-
--- kind none writes -1 and an underflow width of 0
-abbrev pub underflowText : Underflow → ℕ → List ℕ
-underflowText U.None n = codes "-1"
-underflowText (U.Subtracted e) n = decimal n
-
-abbrev pub underflowBytes : Underflow → ℕ
-underflowBytes U.None = 0
-underflowBytes (U.Subtracted e) = entryBytes e
+use Rattle.header_text.specs.declared.Counts.{Counts}
+use Rattle.header_text.specs.Text.{cell, underflowText, underflowBytes, npixelbData, withData}
 
 -- the entries of each table
 abbrev pub storedCounts : Stored → Counts
 storedCounts s = record { under = length (s .under); two = length (s .two); four = length (s .four) }
-
--- the data of NOVERFL for these counts: three cells
-unfoldable pub countsData : Underflow → Counts → List ℕ
-unfolding cell digitsUpTo
-countsData u c = cell (underflowText u (c .under)) ++ (cell (decimal (c .two)) ++ cell (decimal (c .four)))
 
 -- the data of NOVERFL for what is stored
 unfoldable pub noverflData : Form → Stored → List ℕ
@@ -51,34 +22,10 @@ unfolding cell digitsUpTo
 noverflData form s =
     cell (underflowText (form .underflow) (length (s .under))) ++ (cell (decimal (length (s .two))) ++ cell (decimal (length (s .four))))
 
--- the data of NPIXELB: two cells, and spaces in the third
-unfoldable pub npixelbData : Form → List ℕ
-unfolding cell digitsUpTo
-npixelbData form = cell (decimal (widthBytes (form .width))) ++ (cell (decimal (underflowBytes (form .underflow))) ++ spaces 24)
-
--- the header with other data in one line
-unfoldable pub withData : LineId → List ℕ → List ℕ → List ℕ
-withData id text header = take (positionOf id * 80 + 8) header ++ (text ++ drop (positionOf id * 80 + 80) header)
-
 -- the header is copied but for two lines
 unfoldable pub rewritten : Form → Stored → List ℕ → List ℕ
 unfolding withData noverflData npixelbData
 rewritten form s header = withData I.Npixelb (npixelbData form) (withData I.Noverfl (noverflData form s) header)
-
--- the same for given counts
-unfoldable pub relined : Form → Counts → List ℕ → List ℕ
-unfolding withData countsData npixelbData
-relined form c header = withData I.Npixelb (npixelbData form) (withData I.Noverfl (countsData (form .underflow) c) header)
-
--- the data of a line
-abbrev pub dataOf : LineId → List ℕ → List ℕ
-dataOf id header = take 72 (drop (positionOf id * 80 + 8) header)
-
--- the two lines are there, as the writer writes them for these counts
-unfoldable pub linesWritten : Form → Counts → List ℕ → Bool
-unfolding sameBytes countsData npixelbData
-linesWritten form c header =
-    leb 3200 (length header) && sameBytes (dataOf I.Noverfl header) (countsData (form .underflow) c) && sameBytes (dataOf I.Npixelb header) (npixelbData form)
 
 -- the image, and the three tables with their padding
 unfoldable pub bodyBytes : Form → Stored → List ℕ

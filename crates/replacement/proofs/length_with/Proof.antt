@@ -1,7 +1,7 @@
 use native.Mathlib.Omega.{arith}
 use Rattle.layout.specs.Form.{widthBytes}
 use Rattle.layout.proofs.Laws.{width-le}
-use Rattle.writer.specs.Frame.{underflowBytes}
+use Rattle.header_text.specs.Text.{underflowBytes}
 use Rattle.replacement.specs.Replaced.{lengthWith}
 use Rattle.replacement.proofs.Numbers.{product, table-low, under-low}
 use borrow.Author.Needs.{needs}
