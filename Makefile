@@ -126,7 +126,7 @@ compare-frames: deps-peers second-reader
 
 # The command quayrudder (cli), from Debian's crates over the static library.
 CLI := target/cli/release/quayrudder
-DEBIAN := gcc libcbf-dev $(patsubst %,librust-%-dev,chrono clap csv image indicatif rayon rustix serde-json sha2 tempfile tiff users walkdir)
+DEBIAN := gcc libcbf-dev $(patsubst %,librust-%-dev,base64 chrono clap csv image indicatif rayon rustix serde-json sha2 tempfile tiff users walkdir)
 
 deps: deps-rust
 	@tools/deps $(DEBIAN)

@@ -2,6 +2,7 @@
 use crate::formats::{self, Format};
 use crate::given::{Dated, Names};
 use crate::options::{ExpandOptions, InfoOptions, ViewOptions};
+use crate::report::Report;
 use crate::shard::{self, Shard};
 use clap::{Arg, Args, Parser, Subcommand};
 use quayrudder::{Date, Form};
@@ -120,6 +121,10 @@ pub enum Command {
                             quayrudder sweep bin --delete --log purge.log\n  \
                             quayrudder sweep archive --shard 3/8 --json > night.3.json")]
     Sweep(Sweep),
+    /// Make a page to look at of all holdings below a folder: what they hold, what is due, what was corrected and what is damaged
+    #[command(after_help = "Examples:\n  quayrudder report archive -o report.html\n  \
+                            quayrudder report archive --day 2031-11-03 --json > report.json")]
+    Report(Report),
     /// Add up the totals of `sweep --json` or `verify --json` in shards, and say which shards are missing
     #[command(after_help = "Examples:\n  quayrudder total night.*.json\n  cat night.*.json | quayrudder total -")]
     Total {
