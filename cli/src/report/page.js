@@ -249,10 +249,10 @@
     return make("p", { class: "none" }, `No picture: ${many(summary.pictures, "holding has", "holdings have")} one, those with corrections and then the first. \`quayrudder view\` makes one of the held file, and \`--pictures\` asks for more here.`);
   }
 
-  function grid(caption, heads, rows) {
+  function grid(caption, heads, rows, kind) {
     return make("div", { class: "scroll", role: "region", "aria-label": caption, tabindex: "0" }, make("table", null,
       make("caption", { class: "unseen" }, caption),
-      make("thead", null, make("tr", null, ...heads.map((head) => make("th", { scope: "col" }, head)))),
+      make("thead", null, make("tr", null, ...heads.map((head) => make("th", { scope: "col", class: kind || "" }, head)))),
       make("tbody", null, ...rows)));
   }
 
@@ -260,7 +260,7 @@
     const cells = (line) => [line.line, line.pixel, Math.floor(line.pixel / row.columns), line.pixel % row.columns, line.old, line.new];
     const rows = standing(row).map((line) => make("tr", null, ...cells(line).map((cell) => make("td", { class: "number" }, Number.isNaN(cell) ? "not known" : count(cell)))));
     if (!rows.length) return [];
-    return [make("h3", null, "Corrected pixels"), grid("Corrections that stand", ["Line", "Pixel", "Row", "Column", "Old count", "New count"], rows)];
+    return [make("h3", null, "Corrected pixels"), grid("Corrections that stand", ["Line", "Pixel", "Row", "Column", "Old count", "New count"], rows, "number")];
   }
 
   function lineText(line) {

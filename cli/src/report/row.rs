@@ -146,7 +146,8 @@ impl Row {
 /// The failure as data, in a sentence, and what to do once that is done.
 fn trouble(failure: &Failure) -> Value {
     let mut value = failure.json();
-    value["said"] = json!(failure.to_string());
+    let said = failure.to_string();
+    value["said"] = json!(format!("{}.", said.trim_end_matches('.')));
     value["then"] = json!(match failure {
         Failure::InUse { .. } => "Wait until that process is done, and make the report again.",
         Failure::Machine { .. } => "Nothing is known of it until that is put right: then make the report again.",
