@@ -156,6 +156,13 @@ cluster-test: cli
 	@tools/deps munge parallel slurm-wlm
 	@tests/cluster/run.sh $(CLI) target/cluster
 
+.PHONY: report-test
+
+# The page of `quayrudder report` in headless Chromium: a small archive and one of 20,000 holdings. Not in the gate: it needs large packages.
+report-test: cli
+	@tools/deps chromium chromium-driver python3-selenium
+	@tests/report/run.sh $(CLI) target/report
+
 # The main job on an example frame: README's first command.
 demo: cli
 	@cli/demo.sh $(CLI) target/demo

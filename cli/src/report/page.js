@@ -45,6 +45,7 @@
   const blockOf = [];
   const startOf = [];
   const endOf = [];
+  const orders = new Map();
   const view = { order: new Uint32Array(0), key: null, down: false, page: 0, size: 50, words: "", filter: "all" };
 
   const rowAt = (place) => JSON.parse(blocks[blockOf[place]].slice(startOf[place], endOf[place]));
@@ -95,15 +96,24 @@
     };
   }
 
+  // All rows in the order asked for; each order is made once, so that a search need not sort.
+  function sorted() {
+    const asked = `${view.key} ${view.down}`;
+    if (!orders.has(asked)) {
+      const order = Uint32Array.from(table.name.keys());
+      orders.set(asked, view.key ? order.sort(compare(table[view.key], view.down)) : order);
+    }
+    return orders.get(asked);
+  }
+
   function choose() {
     const [words, accept] = [view.words.toLowerCase(), accepts[view.filter]];
     const order = new Uint32Array(table.name.length);
     let found = 0;
-    for (let place = 0; place < order.length; place++) {
+    for (const place of sorted()) {
       if (accept(place) && table.lower[place].includes(words)) order[found++] = place;
     }
     view.order = order.subarray(0, found);
-    if (view.key) view.order.sort(compare(table[view.key], view.down));
     view.page = 0;
     show();
   }
