@@ -2,7 +2,6 @@
 use crate::formats::{self, Format};
 use crate::given::{Dated, Names};
 use crate::options::{ExpandOptions, InfoOptions, ViewOptions};
-use crate::report::Report;
 use crate::shard::{self, Shard};
 use clap::{Arg, Args, Parser, Subcommand};
 use quayrudder::{Date, Form};
@@ -281,6 +280,25 @@ pub struct Sweep {
     /// Ask only this part of the ledgers, the K-th of N [default: all of them]
     #[arg(long, value_name = "K/N", default_value = "1/1", hide_default_value = true, value_parser = shard::parse)]
     pub shard: Shard,
+}
+
+#[derive(Args)]
+pub struct Report {
+    /// The folder to walk
+    #[arg(value_name = "DIR")]
+    pub folder: PathBuf,
+    /// The page to write, an .html, - for standard output; with --json it may be left out
+    #[arg(short, long, value_name = "OUT.html")]
+    pub output: Option<PathBuf>,
+    /// The day for which the ledgers are asked whether their holdings may be purged [default: today]
+    #[arg(long, value_name = "YYYY-MM-DD", value_parser = parse_date)]
+    pub day: Option<Date>,
+    /// Pictures of the first N holdings with corrections and of the first N others
+    #[arg(long, value_name = "N", default_value_t = 500)]
+    pub pictures: u32,
+    /// Replace the file where it exists
+    #[arg(long)]
+    pub force: bool,
 }
 
 #[derive(Clone, Copy, Debug, PartialEq, Eq)]

@@ -5,7 +5,7 @@ mod row;
 mod spool;
 mod summary;
 
-use crate::args::parse_date;
+use crate::args::Report;
 use crate::batch;
 use crate::clock;
 use crate::failure::{shown, Failure, Outcome};
@@ -16,33 +16,13 @@ use crate::names::{self, Found, Item};
 use crate::output::Output;
 use crate::shard::Shard;
 use crate::streams;
-use clap::Args;
 use pictures::Pictures;
 use quayrudder::Date;
 use row::Row;
 use spool::Spool;
-use std::path::{Path, PathBuf};
+use std::path::Path;
 use std::time::Duration;
 use summary::Summary;
-
-#[derive(Args)]
-pub struct Report {
-    /// The folder to walk
-    #[arg(value_name = "DIR")]
-    pub folder: PathBuf,
-    /// The page to write, an .html, - for standard output; with --json it may be left out
-    #[arg(short, long, value_name = "OUT.html")]
-    pub output: Option<PathBuf>,
-    /// The day for which the ledgers are asked whether their holdings may be purged [default: today]
-    #[arg(long, value_name = "YYYY-MM-DD", value_parser = parse_date)]
-    pub day: Option<Date>,
-    /// Pictures of the first N holdings with corrections and of the first N others
-    #[arg(long, value_name = "N", default_value_t = 500)]
-    pub pictures: u32,
-    /// Replace the file where it exists
-    #[arg(long)]
-    pub force: bool,
-}
 
 pub fn report(output: &mut Output, asked: &Report, wait: Option<Duration>) -> Outcome<()> {
     let day = asked.day.unwrap_or_else(clock::today);

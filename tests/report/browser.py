@@ -319,22 +319,22 @@ class ManyRows(Browser):
 
 
 def pictures(folder):
-    """The two pictures of the manual."""
-    driver = browser()
-    for name, part, scheme, height in [("report.png", "", "light", 1500), ("report-holding.png", "#holding-8", "dark", 1000)]:
+    """The two pictures of the manual, each of a whole page."""
+    page, driver = report("archive", "archive.html"), browser()
+    for name, part, scheme in [("report.png", "", "light"), ("report-holding.png", "#holding-8", "dark")]:
         driver.execute_cdp_cmd("Emulation.setEmulatedMedia", {"features": [{"name": "prefers-color-scheme", "value": scheme}]})
-        driver.set_window_size(1000, height)
         driver.get("about:blank")
-        driver.get((FOLDER / "archive.html").as_uri() + part)
+        driver.get(page.as_uri() + part)
         time.sleep(1)
-        driver.execute_script("document.activeElement.blur()")
-        driver.save_screenshot(str(folder / name))
+        height = driver.execute_script("document.activeElement.blur(); return document.documentElement.scrollHeight")
+        clip = {"x": 0, "y": 0, "width": 1180, "height": height, "scale": 0.85}
+        taken = driver.execute_cdp_cmd("Page.captureScreenshot", {"captureBeyondViewport": True, "clip": clip})
+        (folder / name).write_bytes(base64.b64decode(taken["data"]))
     driver.quit()
 
 
 if __name__ == "__main__":
     if PICTURES:
-        report("archive", "archive.html")
         pictures(*PICTURES)
     else:
         unittest.main(argv=sys.argv[:1])
