@@ -4,7 +4,7 @@ set -eu
 command=$(realpath "$1")
 examples=$(dirname "$command")/examples
 rm -rf "$2"
-mkdir -p "$2/archive/lysozyme" "$2/archive/insulin"
+mkdir -p "$2/archive/lysozyme" "$2/archive/Insulin"
 cd "$2"
 
 "$examples/example_frame" .
@@ -14,16 +14,16 @@ for number in 1 2 3 4 5 6 7 8 9; do
     "$command" keep "archive/lysozyme/scan_000$number" "203$((number % 3))-0$number-15"
 done
 "$command" correct archive/lysozyme/scan_0002 100,250 90
-"$command" correct archive/lysozyme/scan_0002 20,30 7
+"$command" correct archive/lysozyme/scan_0002 21,30 7
 "$command" correct archive/lysozyme/scan_0002 200,340 31
 "$command" withdraw archive/lysozyme/scan_0002
 "$command" correct archive/lysozyme/scan_0005 100,250 88
 for number in 1 2 3; do
-    "$command" open frame.sfrm --form 2 --room 0 -o "archive/insulin/frame_$number"
+    "$command" open frame.sfrm --form 2 --room 0 -o "archive/Insulin/frame_$number"
 done
-"$command" keep archive/insulin/frame_1 2024-06-30 --shorten
-"$command" keep archive/insulin/frame_2 2026-01-31 --shorten
-rm archive/insulin/frame_2.sha256
+"$command" keep archive/Insulin/frame_1 2024-06-30 --shorten
+"$command" keep archive/Insulin/frame_2 2026-01-31 --shorten
+rm archive/Insulin/frame_2.sha256
 
 # One that is damaged, one whose ledger is refused, and names that mean harm.
 printf x >> archive/lysozyme/scan_0007.held
