@@ -388,27 +388,30 @@ fn a_question_makes_no_file_and_changes_none() {
     assert_eq!(all(&f), before);
 }
 
-/// A page that is there is the old one or the new one, whole, wherever the machine fails.
+/// The page made anew with this fault at each call in turn: it is the old one or the new one, whole. Gives the calls.
+fn at_every_step(f: &Folder, fault: &str, old: &[u8], new: &[u8]) -> u32 {
+    let mut steps = 0;
+    let step = |at: u32| -> Option<Ran> {
+        f.put("r.html", old);
+        let mut run = command();
+        run.args(["report", "t", "-o", "r.html", "--force"]).current_dir(f.path()).env("RAYON_NUM_THREADS", "1");
+        faulty(f, run, fault, at)
+    };
+    while let Some(ran) = step(steps + 1) {
+        let found = f.get("r.html");
+        assert!(found == old || found == new, "{fault} {steps}: {ran:?}");
+        assert!([None, Some(0), Some(3)].contains(&ran.status), "{fault} {steps}: {ran:?}");
+        assert!(ran.status != Some(0) || found == new, "{fault} {steps}: {ran:?}");
+        steps += 1;
+    }
+    steps
+}
+
 #[test]
 fn killed_and_failed_at_every_step() {
     let f = archive();
     f.done("report t -o new.html");
-    let (old, new) = (b"old".to_vec(), f.get("new.html"));
-    for fault in ["before", "after", "torn", "5", "28"] {
-        let mut steps = 0;
-        let step = |at: u32| -> Option<Ran> {
-            f.put("r.html", &old);
-            let mut run = command();
-            run.args(["report", "t", "-o", "r.html", "--force"]).current_dir(f.path()).env("RAYON_NUM_THREADS", "1");
-            faulty(&f, run, fault, at)
-        };
-        while let Some(ran) = step(steps + 1) {
-            let found = f.get("r.html");
-            assert!(found == old || found == new, "{fault} {steps}: {ran:?}");
-            assert!([None, Some(0), Some(3)].contains(&ran.status), "{fault} {steps}: {ran:?}");
-            assert!(ran.status != Some(0) || found == new, "{fault} {steps}: {ran:?}");
-            steps += 1;
-        }
-        assert!(steps >= 6, "{fault}: only {steps} steps");
-    }
+    let new = f.get("new.html");
+    let steps = ["before", "after", "torn", "5", "28"].map(|fault| at_every_step(&f, fault, b"old", &new));
+    assert!(steps.iter().all(|number| *number >= 6), "{steps:?}");
 }

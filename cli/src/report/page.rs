@@ -22,7 +22,7 @@ pub fn write(out: &mut dyn Write, summary: &Value, mut rows: impl BufRead) -> io
             "style" => out.write_all(STYLE.as_bytes())?,
             "script" => out.write_all(SCRIPT.as_bytes())?,
             "summary" => out.write_all(inert(summary).as_bytes())?,
-            "rows" => while write_block(&mut out, &mut rows)? {},
+            "rows" => write_rows(&mut out, &mut rows)?,
             _ => {}
         }
         out.write_all(text.as_bytes())?;
@@ -52,6 +52,11 @@ fn policy() -> String {
     format!(
         "default-src 'none'; script-src {script}; style-src {style}; img-src data:; base-uri 'none'; form-action 'none'"
     )
+}
+
+fn write_rows(out: &mut impl Write, rows: &mut impl BufRead) -> io::Result<()> {
+    while write_block(out, rows)? {}
+    Ok(())
 }
 
 /// Are there rows left?
