@@ -128,22 +128,16 @@ fn withdrawn(holding: &Holding) -> Outcome<Said> {
     Ok(Said { text, value, counted: "withdrawn" })
 }
 
-pub fn accepted(holding: &Holding, refusal: u32, ledger: &[u8]) -> Outcome<()> {
-    match refusal {
-        0 => Ok(()),
-        number => Err(refused(holding, number, ledger)),
-    }
-}
-
 /// A refusal names the file that it is about.
-fn refused(holding: &Holding, refusal: u32, ledger: &[u8]) -> Failure {
+pub fn accepted(holding: &Holding, refusal: u32, ledger: &[u8]) -> Outcome<()> {
     let (file, note) = match refusal {
+        0 => return Ok(()),
         17 | 18 | 19 | 23 | 24 => (&holding.held, String::new()),
         20 => (&holding.ledger, ledger::length_note(ledger)),
         _ => (&holding.name, String::new()),
     };
     let (file, said) = (file.clone(), sentence(refusal));
-    Failure::Refused(Refused { file, number: refusal, place: 0, column: 0, note, said })
+    Err(Failure::Refused(Refused { file, number: refusal, place: 0, column: 0, note, said }))
 }
 
 pub fn line_text(line: &Line) -> String {
@@ -193,11 +187,10 @@ pub fn may_purge(output: &mut Output, holding: &Holding, day: Date) -> Outcome<(
     output.say(&text, &value)
 }
 
-/// What this ledger answers to the purge question.
+/// What this ledger answers to the purge question. 26 and 27 are its two kinds of no.
 pub fn purge_answer(holding: &Holding, bytes: &[u8], day: Date) -> Outcome<(String, Value)> {
-    let name = shown(&holding.name);
-    match quayrudder::may_purge(bytes, ledger::lines(bytes), day) {
-        0 => Ok((format!("yes: {name} may be purged"), json!({"name": name, "may_purge": true}))),
+    let (name, number) = (shown(&holding.name), quayrudder::may_purge(bytes, ledger::lines(bytes), day));
+    match number {
         26 => {
             let value = json!({"name": name, "may_purge": false, "refusal": 26});
             Ok((format!("no: {name} has no keep date that stands"), value))
@@ -207,6 +200,9 @@ pub fn purge_answer(holding: &Holding, bytes: &[u8], day: Date) -> Outcome<(Stri
             let value = json!({"name": name, "may_purge": false, "refusal": 27, "kept_until": until});
             Ok((format!("not yet: {name} is kept until {until}"), value))
         }
-        number => Err(refused(holding, number, bytes)),
+        _ => {
+            accepted(holding, number, bytes)?;
+            Ok((format!("yes: {name} may be purged"), json!({"name": name, "may_purge": true})))
+        }
     }
 }
