@@ -131,7 +131,7 @@ compare-frames: deps-peers second-reader
 
 # The command quayrudder (cli), from Debian's crates over the static library.
 CLI := target/cli/release/quayrudder
-DEBIAN := gcc libcbf-dev $(patsubst %,librust-%-dev,chrono clap csv image indicatif rayon rustix serde-json sha2 tempfile tiff users walkdir)
+DEBIAN := gcc libcbf-dev $(patsubst %,librust-%-dev,base64 chrono clap csv image indicatif rayon rustix serde-json sha2 tempfile tiff users walkdir)
 
 deps: deps-rust
 	@tools/deps $(DEBIAN)
@@ -160,6 +160,13 @@ model:
 cluster-test: cli
 	@tools/deps munge parallel slurm-wlm
 	@tests/cluster/run.sh $(CLI) target/cluster
+
+.PHONY: report-test
+
+# The page of `quayrudder report` in headless Chromium: a small archive and one of 20,000 holdings. Not in the gate: it needs large packages.
+report-test: cli
+	@tools/deps chromium chromium-driver python3-selenium
+	@tests/report/run.sh $(CLI) target/report
 
 # The main job on an example frame: README's first command.
 demo: cli

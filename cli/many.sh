@@ -1,6 +1,6 @@
 #!/bin/sh
 # many.sh QUAYRUDDER FOLDER [NUMBER]: a tier of so many holdings (200,000), with time and memory of each step. First it is
-# opened from frames, kept, corrected from a table of half as many rows, verified and swept, each in one command; then
+# opened from frames, kept, corrected from a table of half as many rows, verified, swept and reported, each in one command; then
 # copies of one holding are swept and verified, and two thousand of them moved and deleted. The folder is made anew and
 # removed; it takes 5 gigabytes. Needs GNU time.
 set -eu
@@ -28,6 +28,7 @@ run correct --from table.csv
 run correct --from table.csv
 run verify --below archive
 run sweep archive --day 2040-01-02
+run report archive -o report.html
 rm -rf frames archive
 
 "$here/tiny_frame.sh" "$command"

@@ -128,6 +128,10 @@ pub enum Command {
                             quayrudder sweep bin --delete --log purge.log\n  \
                             quayrudder sweep archive --shard 3/8 --json > night.3.json")]
     Sweep(Sweep),
+    /// Make a page to look at of all holdings below a folder: what they hold, what is due, what was corrected and what is damaged
+    #[command(after_help = "Examples:\n  quayrudder report archive -o report.html\n  \
+                            quayrudder report archive --day 2031-11-03 --json > report.json")]
+    Report(Report),
     /// Add up the totals of `sweep --json` or `verify --json` in shards, and say which shards are missing
     #[command(after_help = "Examples:\n  quayrudder total night.*.json\n  cat night.*.json | quayrudder total -")]
     Total {
@@ -284,6 +288,25 @@ pub struct Sweep {
     /// Ask only this part of the ledgers, the K-th of N [default: all of them]
     #[arg(long, value_name = "K/N", default_value = "1/1", hide_default_value = true, value_parser = shard::parse)]
     pub shard: Shard,
+}
+
+#[derive(Args)]
+pub struct Report {
+    /// The folder to walk
+    #[arg(value_name = "DIR")]
+    pub folder: PathBuf,
+    /// The page to write, an .html, - for standard output; with --json it may be left out
+    #[arg(short, long, value_name = "OUT.html")]
+    pub output: Option<PathBuf>,
+    /// The day for which the ledgers are asked whether their holdings may be purged [default: today]
+    #[arg(long, value_name = "YYYY-MM-DD", value_parser = parse_date)]
+    pub day: Option<Date>,
+    /// Pictures of the first N holdings with corrections and of the first N others
+    #[arg(long, value_name = "N", default_value_t = 500)]
+    pub pictures: u32,
+    /// Replace the file where it exists
+    #[arg(long)]
+    pub force: bool,
 }
 
 #[derive(Clone, Copy, Debug, PartialEq, Eq)]

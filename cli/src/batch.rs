@@ -78,12 +78,16 @@ impl Tally {
         format!("{} {}: {}", self.number, self.things, counts.join(", "))
     }
 
-    pub fn say(&self, output: &mut Output) -> Outcome<()> {
+    pub fn value(&self) -> Value {
         let mut totals = json!({self.things: self.number});
         for (word, count) in &self.counts {
             totals[word.replace(' ', "_")] = json!(count);
         }
-        output.say(&self.text(), &json!({"totals": totals}))
+        json!({"totals": totals})
+    }
+
+    pub fn say(&self, output: &mut Output) -> Outcome<()> {
+        output.say(&self.text(), &self.value())
     }
 }
 

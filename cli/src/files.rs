@@ -88,6 +88,11 @@ pub struct Staged {
 
 /// Writes and syncs a file's new contents beside it, in a file that nobody else has or can foresee.
 pub fn stage(path: &Path, parts: &[&[u8]], access: Access) -> Outcome<Staged> {
+    stage_with(path, access, |file| parts.iter().try_for_each(|part| file.write_all(part)))
+}
+
+/// The same, with contents that come piece by piece.
+fn stage_with(path: &Path, access: Access, write: impl FnOnce(&mut File) -> io::Result<()>) -> Outcome<Staged> {
     let failed = || Failure::machine(path, "write");
     let mut start = OsString::from(".");
     start.push(path.file_name().unwrap_or_default());
@@ -95,9 +100,7 @@ pub fn stage(path: &Path, parts: &[&[u8]], access: Access) -> Outcome<Staged> {
     let mut builder = tempfile::Builder::new();
     builder.prefix(&start).suffix(ENDING).rand_bytes(RANDOM);
     let mut fresh = builder.tempfile_in(folder(path)).map_err(failed())?;
-    for part in parts {
-        fresh.write_all(part).map_err(failed())?;
-    }
+    write(fresh.as_file_mut()).map_err(failed())?;
     access.give(fresh.as_file()).and_then(|()| fresh.as_file().sync_all()).map_err(failed())?;
     Ok(Staged { fresh, path: path.into() })
 }
@@ -202,11 +205,16 @@ pub fn exists(path: &Path) -> Outcome<bool> {
 }
 
 /// Writes an output file. One that is there is kept unless `force` is given.
-pub fn output(path: &Path, bytes: &[u8], force: bool) -> Outcome<()> {
-    if !force && exists(path)? {
-        return Err(Failure::declined(path, "exists already and is kept. Give another name, or --force to replace it"));
-    }
-    let staged = stage(path, &[bytes], Access::of(&[path]))?;
+pub fn output(path: &Path, force: bool, write: impl FnOnce(&mut File) -> io::Result<()>) -> Outcome<()> {
+    must_be_free(path, force)?;
+    let staged = stage_with(path, Access::of(&[path]), write)?;
     if force { staged.put() } else { staged.put_new() }?;
     sync_folder_of(path)
+}
+
+pub fn must_be_free(path: &Path, force: bool) -> Outcome<()> {
+    match !force && exists(path)? {
+        true => Err(Failure::declined(path, "exists already and is kept. Give another name, or --force to replace it")),
+        false => Ok(()),
+    }
 }

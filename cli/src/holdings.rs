@@ -50,13 +50,21 @@ pub fn keep(output: &mut Output, asked: &Keep, wait: Option<Duration>) -> Outcom
     each(output, names, wait, &["kept", "already kept"], |holding, many| kept(holding, date, asked.shorten, many))
 }
 
-/// What every holding would answer alike is answered once: a ledger of no lines answers 26 for a calendar date.
+/// What every holding would answer alike is answered once.
 fn must_be_a_day(date: Date, shorten: bool) -> Outcome<()> {
     let name = date_text(date);
+    must_be_in_calendar(Path::new(&name), date)?;
+    match shorten {
+        true => Ok(()),
+        false => must_not_shorten(Path::new(&name), date, None),
+    }
+}
+
+/// A ledger of no lines answers 26 for a calendar date.
+pub fn must_be_in_calendar(named: &Path, date: Date) -> Outcome<()> {
     match quayrudder::may_purge(&[], 0, date) {
-        26 if shorten => Ok(()),
-        26 => must_not_shorten(Path::new(&name), date, None),
-        number => Err(Failure::refused(Path::new(&name), number)),
+        26 => Ok(()),
+        number => Err(Failure::refused(named, number)),
     }
 }
 
@@ -183,22 +191,29 @@ fn listed(holding: &Holding, many: bool) -> Outcome<Said> {
 
 pub fn may_purge(output: &mut Output, holding: &Holding, day: Date) -> Outcome<()> {
     let bytes = holding.ask(|holding| holding.must_have_held().and_then(|()| holding.read_ledger()))?;
-    let name = shown(&holding.name);
-    let (text, value) = match quayrudder::may_purge(&bytes, ledger::lines(&bytes), day) {
-        0 => (format!("yes: {name} may be purged"), json!({"name": name, "may_purge": true})),
-        26 => (
-            format!("no: {name} has no keep date that stands"),
-            json!({"name": name, "may_purge": false, "refusal": 26}),
-        ),
-        27 => {
-            let until = ledger::keep_date(&ledger::listing(&bytes)).unwrap_or_default();
-            let value = json!({"name": name, "may_purge": false, "refusal": 27, "kept_until": until});
-            (format!("not yet: {name} is kept until {until}"), value)
-        }
-        other => return accepted(holding, other, &bytes),
-    };
+    let (text, value) = purge_answer(holding, &bytes, day)?;
     if value["may_purge"] == false {
         output.status(NO);
     }
     output.say(&text, &value)
+}
+
+/// What this ledger answers to the purge question. 26 and 27 are its two kinds of no.
+pub fn purge_answer(holding: &Holding, bytes: &[u8], day: Date) -> Outcome<(String, Value)> {
+    let (name, number) = (shown(&holding.name), quayrudder::may_purge(bytes, ledger::lines(bytes), day));
+    match number {
+        26 => {
+            let value = json!({"name": name, "may_purge": false, "refusal": 26});
+            Ok((format!("no: {name} has no keep date that stands"), value))
+        }
+        27 => {
+            let until = ledger::keep_date(&ledger::listing(bytes)).unwrap_or_default();
+            let value = json!({"name": name, "may_purge": false, "refusal": 27, "kept_until": until});
+            Ok((format!("not yet: {name} is kept until {until}"), value))
+        }
+        _ => {
+            accepted(holding, number, bytes)?;
+            Ok((format!("yes: {name} may be purged"), json!({"name": name, "may_purge": true})))
+        }
+    }
 }

@@ -30,6 +30,7 @@ mod purge_log;
 mod redo;
 mod refusals;
 mod removal;
+mod report;
 mod room;
 mod rows;
 mod scale_bar;
@@ -101,6 +102,7 @@ fn run(output: &mut Output, command: Command, seconds: Option<u32>) -> Outcome<(
             let seconds = seconds.unwrap_or(SWEEP_WAIT);
             sweep::sweep(output, &asked, Duration::from_secs(seconds.into()))
         }
+        Command::Report(asked) => report::report(output, &asked, wait),
         Command::Total { files } => total::total(output, &files),
     }
 }

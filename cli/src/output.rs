@@ -3,7 +3,7 @@ use crate::failure::{Failure, Outcome, DONE};
 use crate::streams;
 use indicatif::{ProgressBar, ProgressStyle};
 use serde_json::Value;
-use std::io::{self, ErrorKind, Write};
+use std::io::{self, ErrorKind, Read, Write};
 use std::path::Path;
 
 pub struct Output {
@@ -39,6 +39,16 @@ impl Output {
         }
         let mut out = io::stdout().lock();
         writeln!(out, "{line}").and_then(|()| out.flush()).map_err(unread)
+    }
+
+    /// Says answers that are lines of JSON already.
+    pub fn pass_on(&mut self, mut lines: impl Read) -> Outcome<()> {
+        let mut out: Box<dyn Write> = if self.aside { Box::new(io::stderr()) } else { Box::new(io::stdout().lock()) };
+        io::copy(&mut lines, &mut out).and_then(|_| out.flush()).map_err(unread)
+    }
+
+    pub fn is_json(&self) -> bool {
+        self.json
     }
 
     /// Says what is good to know beside the answers.

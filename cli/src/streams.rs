@@ -31,11 +31,16 @@ pub fn open(path: &Path) -> Outcome<File> {
 
 /// Writes an output file, as `files::output` does, or to standard output.
 pub fn output(path: &Path, bytes: &[u8], force: bool) -> Outcome<()> {
+    output_with(path, force, |out| out.write_all(bytes))
+}
+
+/// The same, with bytes that come piece by piece.
+pub fn output_with(path: &Path, force: bool, write: impl FnOnce(&mut dyn Write) -> io::Result<()>) -> Outcome<()> {
     if !is_stream(path) {
-        return files::output(path, bytes, force);
+        return files::output(path, force, |file| write(file));
     }
     let mut out = io::stdout().lock();
-    out.write_all(bytes).and_then(|()| out.flush()).map_err(|error| match error.kind() {
+    write(&mut out).and_then(|()| out.flush()).map_err(|error| match error.kind() {
         ErrorKind::BrokenPipe => Failure::Unread,
         _ => Failure::machine(path, "write")(error),
     })

@@ -4,6 +4,7 @@ use crate::clock::{self, date_text};
 use crate::failure::{shown, Failure, Outcome, DAMAGED, DONE, MACHINE};
 use crate::files;
 use crate::holding::{Holding, Owned};
+use crate::holdings::must_be_in_calendar;
 use crate::ledger;
 use crate::locks;
 use crate::output::{progress, Output};
@@ -68,18 +69,16 @@ pub fn sweep(output: &mut Output, asked: &Sweep, wait: Duration) -> Outcome<()> 
 }
 
 impl Job<'_> {
-    /// The library judges the day before anything is walked: a ledger of no lines answers 26 for a calendar date.
+    /// The day is judged before anything is walked.
     fn must_be_a_day(&self) -> Outcome<()> {
-        let today = clock::today();
-        match quayrudder::may_purge(&[], 0, self.day) {
-            26 if self.removes && clock::is_before(today, self.day) => {
-                let (day, today) = (date_text(self.day), date_text(today));
-                let why = format!("{day} is after today, {today}. Nothing goes for a day that has not come");
-                Err(Failure::declined(Path::new("--day"), why))
-            }
-            26 => Ok(()),
-            number => Err(Failure::refused(Path::new("--day"), number)),
+        let (option, today) = (Path::new("--day"), clock::today());
+        must_be_in_calendar(option, self.day)?;
+        if self.removes && clock::is_before(today, self.day) {
+            let (day, today) = (date_text(self.day), date_text(today));
+            let why = format!("{day} is after today, {today}. Nothing goes for a day that has not come");
+            return Err(Failure::declined(option, why));
         }
+        Ok(())
     }
 
     /// The folder that is moved into may lie below the one that is swept.

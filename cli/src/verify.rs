@@ -17,7 +17,7 @@ use std::path::Path;
 use std::time::Duration;
 
 /// What a holding that agrees has.
-struct Verdict {
+pub struct Verdict {
     lines: u64,
     standing: u64,
     sums: Sealed,
@@ -25,10 +25,28 @@ struct Verdict {
 }
 
 #[derive(Clone, Copy, PartialEq, Eq)]
-enum Sealed {
+pub enum Sealed {
     Before,
     Now,
     No,
+}
+
+impl Sealed {
+    pub fn of(found: &Contents) -> Sealed {
+        match found.sums {
+            Some(_) => Sealed::Before,
+            None => Sealed::No,
+        }
+    }
+
+    /// The word for it in JSON.
+    pub fn word(self) -> &'static str {
+        match self {
+            Sealed::Before => "agree",
+            Sealed::Now => "made",
+            Sealed::No => "none",
+        }
+    }
 }
 
 pub fn verify(output: &mut Output, asked: &Verify, wait: Option<Duration>) -> Outcome<()> {
@@ -86,7 +104,7 @@ fn counted(verdict: &Outcome<Verdict>) -> &'static [&'static str] {
 fn verdict(name: &Path, seal: bool, wait: Option<Duration>) -> Outcome<Verdict> {
     let holding = Holding::named(name, wait)?;
     let found = holding.ask(Holding::read_whole)?;
-    let sums = if found.sums.is_some() { Sealed::Before } else { Sealed::No };
+    let sums = Sealed::of(&found);
     if seal && sums == Sealed::No {
         return sealed(&holding);
     }
@@ -104,7 +122,7 @@ fn sealed(holding: &Holding) -> Outcome<Verdict> {
     Ok(verdict)
 }
 
-fn checked(holding: &Holding, found: Contents, sums: Sealed) -> Outcome<Verdict> {
+pub fn checked(holding: &Holding, found: Contents, sums: Sealed) -> Outcome<Verdict> {
     let frame = found.sums.and_then(|sums| sums::noted_frame(&sums.notes));
     let mut held = found.held;
     stands(holding, &mut held)?;
@@ -149,14 +167,9 @@ impl Verdict {
     }
 
     fn value(&self, name: &Path) -> Value {
-        let sums = match self.sums {
-            Sealed::Before => "agree",
-            Sealed::Now => "made",
-            Sealed::No => "none",
-        };
         json!({
-            "name": shown(name), "agree": true, "lines": self.lines, "standing": self.standing, "sums": sums,
-            "frame_sha256": self.frame,
+            "name": shown(name), "agree": true, "lines": self.lines, "standing": self.standing,
+            "sums": self.sums.word(), "frame_sha256": self.frame,
         })
     }
 }

@@ -208,7 +208,9 @@ fn meanwhile(f: &Folder, words: &str, call: &str) -> Ran {
 fn an_output_that_came_meanwhile_is_kept() {
     let f = folder();
     f.put("a.sfrm", plain_frame());
-    for (words, out) in [("expand a.sfrm -o a.npy", "a.npy"), ("view a.sfrm -o a.png", "a.png")] {
+    let outputs =
+        [("expand a.sfrm -o a.npy", "a.npy"), ("view a.sfrm -o a.png", "a.png"), ("report . -o r.html", "r.html")];
+    for (words, out) in outputs {
         let ran = meanwhile(&f, words, &format!("rename {out}"));
         assert!(ran.status == Some(1) && ran.err.contains("has come meanwhile and is kept"), "{ran:?}");
         assert_eq!(f.get(out), b"theirs");
