@@ -1,5 +1,5 @@
--- Demand 3: from an accepted opening and a ledger of no lines, every list of corrections, keep entries, withdrawals and purge
--- questions gives what document 01's plain book gives, refused calls included.
+-- Demand 3: after an opening that is accepted, with no line in the ledger, every list of the model's calls gives on real bytes what the
+-- reference model gives (document 01's plain book, with A6's amending), refused calls included.
 -- Assumes nothing.
 use mathlib.Core.Path.{_≡_, refl}
 use mathlib.Core.List.{List, [], _∷_, _++_, map, reverse, reverse-cons, map-append}
@@ -36,7 +36,7 @@ pub record Agreement (o : Opening) (before : List ℕ) (cs : List Call) (real : 
   -- the ledger is the lines that the accepted calls added, in their order, and then its bytes at first
   pub ledger : real .state .ledger ≡ linesBytes (linesAdded o cs emptyModel) ++ drop (model .state .lines * 16) before
   pub read : linesOf (real .state .lines) (real .state .ledger) ≡ linesAdded o cs emptyModel
-  -- the lines that stand by the cancelling rule are the stack, oldest first, by kind, date, pixel and new count
+  -- the lines that stand by the cancelling rule are the stack from below, in all but the old count
   pub stands : map seenLine (standing (linesOf (real .state .lines) (real .state .ledger))) ≡ map seenEntry (reverse (model .state .stack))
 
 -- the lines of a stack are seen as its entries

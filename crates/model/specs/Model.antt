@@ -64,8 +64,8 @@ pub record Model : Type 0 where
   pub stack : List Entry
   pub lines : ℕ
 
--- what the model is fed besides the calls: the opened header, the N pixels that the reading rules give, the form opened in,
--- and the lengths of held buffer and ledger
+-- what the model is fed besides the calls: the header and the N pixels of the frame opened, the form asked for, and the
+-- lengths of held buffer and ledger
 pub record Opening : Type 0 where
   pub header : List ℕ
   pub pixels : List ℕ
@@ -103,7 +103,7 @@ askedOf day (corrected pixel count ∷ es) = askedOf day es
 askedOf day (kept d ∷ es) = if before d day then accepted else refused R.NotYet
 
 module _ (o : Opening) where
-  -- full: the lines used are as many as the ledger's bytes hold whole
+  -- full: no whole line is left in the ledger's bytes
   abbrev pub isFull : Model → Bool
   isFull m = leb (o .ledgerLength / 16) (m .lines)
 

@@ -80,7 +80,7 @@ openingOf frame pixels form held ledger = record {
   ledgerLength = length ledger;
 }
 
--- the state after an opening, with a ledger of no lines, whatever its bytes
+-- the state after an opening: no line of the ledger is used, and its bytes may be any
 abbrev pub openedState : List ℕ → List ℕ → Form → List ℕ → List ℕ → State
 openedState frame pixels form held ledger = stateOf (openHeld frame pixels (F.Listed form) held) ledger 0
 
