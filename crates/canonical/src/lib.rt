@@ -1,4 +1,4 @@
-// The check of a held frame: whether it is the writer's frame for its own pixels, and where a pixel's entries stand in it.
+// The check of a held frame: whether the writer would give these bytes for what is read from them, and where a pixel's entries stand.
 ghost use mathlib.Core.Path.{_≡_};
 ghost use mathlib.Core.Bool.{true, false, _&&_};
 ghost use Prim.Native.Nat.{_+_, _-_, _<_, _≤_, _^_};
