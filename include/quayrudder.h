@@ -42,6 +42,10 @@ qr_ledger_answer qr_amend(uint8_t *held, size_t held_len, uint8_t *ledger, size_
 /* A keep line appended to the ledger, of which so many lines are used. */
 qr_ledger_answer qr_keep(uint8_t *ledger, size_t ledger_len, uint64_t lines, uint32_t year, uint32_t month, uint32_t day);
 
+/* The ledger with its standing lines alone, in their order and from the first line on: the bytes of the lines that go become 0, those behind the lines used
+   stay. lines in the answer is how many are left. Refusal 20 only. */
+qr_ledger_answer qr_compact(uint8_t *ledger, size_t ledger_len, uint64_t lines);
+
 /* 0: purge is allowed on this day. */
 uint32_t qr_may_purge(const uint8_t *ledger, size_t ledger_len, uint64_t lines, uint32_t year, uint32_t month, uint32_t day);
 

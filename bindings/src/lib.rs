@@ -159,6 +159,7 @@ mod c {
         pub fn qr_amend(
             held: *mut u8, held_len: usize, ledger: *mut u8, ledger_len: usize, lines: u64, count: u32,
         ) -> LedgerAnswer;
+        pub fn qr_compact(ledger: *mut u8, ledger_len: usize, lines: u64) -> LedgerAnswer;
         pub fn qr_may_purge(
             ledger: *const u8, ledger_len: usize, lines: u64, year: u32, month: u32, day: u32,
         ) -> u32;
@@ -216,6 +217,11 @@ pub fn withdraw(held: &mut [u8], ledger: &mut [u8], lines: u64) -> LedgerAnswer 
 pub fn amend(held: &mut [u8], ledger: &mut [u8], lines: u64, count: u32) -> LedgerAnswer {
     let (n, m) = (held.len(), ledger.len());
     unsafe { c::qr_amend(held.as_mut_ptr(), n, ledger.as_mut_ptr(), m, lines, count) }
+}
+
+/// Leaves the standing lines alone, in their order; the answer has how many they are.
+pub fn compact(ledger: &mut [u8], lines: u64) -> LedgerAnswer {
+    unsafe { c::qr_compact(ledger.as_mut_ptr(), ledger.len(), lines) }
 }
 
 /// May the frame be purged on this day: 0, or the refusal.

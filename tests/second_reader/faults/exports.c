@@ -11,6 +11,7 @@ void rattle_qr_correct(qr_ledger_answer *, slice *, slice *, uint64_t, uint64_t,
 void rattle_qr_keep(qr_ledger_answer *, slice *, uint64_t, uint32_t, uint32_t, uint32_t);
 void rattle_qr_withdraw(qr_ledger_answer *, slice *, slice *, uint64_t);
 void rattle_qr_amend(qr_ledger_answer *, slice *, slice *, uint64_t, uint32_t);
+void rattle_qr_compact(qr_ledger_answer *, slice *, uint64_t);
 uint32_t rattle_qr_may_purge(slice *, uint64_t, uint32_t, uint32_t, uint32_t);
 void rattle_qr_header(qr_header_answer *, slice *);
 void rattle_qr_list(qr_list_answer *, slice *, slice *);
@@ -69,6 +70,13 @@ qr_ledger_answer qr_amend(uint8_t *held, size_t held_len, uint8_t *ledger, size_
     slice h = { held, held_len }, l = { ledger, ledger_len };
     qr_ledger_answer answer;
     rattle_qr_amend(&answer, &h, &l, lines, count);
+    return answer;
+}
+
+qr_ledger_answer qr_compact(uint8_t *ledger, size_t ledger_len, uint64_t lines) {
+    slice l = { ledger, ledger_len };
+    qr_ledger_answer answer;
+    rattle_qr_compact(&answer, &l, lines);
     return answer;
 }
 
