@@ -23,6 +23,7 @@ use Rattle.ledger.specs.declared.SurveyAnswer.the-variants as Y
 use Rattle.ledger.specs.Lines.{linesOf}
 use Rattle.ledger.specs.Standing.{lastStanding, anyLine}
 use Rattle.ledger.specs.Ledger.{ledgerMalformed, ledgerFull, withLine, summaryOf, surveyOf, appendAnswer, appendBytes}
+use Rattle.ledger.proofs.Appending.{appended-answer, appended-bytes}
 use Rattle.writer.specs.Writer.{Made, frame, refused, outputOf}
 use Rattle.readback.specs.Held.{heldCount, heldPixels, isHeld}
 use Rattle.canonical.specs.declared.Place.{Place}
@@ -175,15 +176,6 @@ held-of e = sym (ap (λ (x : Outcome). x .held) e)
 
 pub ledger-of : {a : LedgerAnswer} {h l : List ℕ} {o : Outcome} → o ≡ outcome a h l → l ≡ o .ledger
 ledger-of e = sym (ap (λ (x : Outcome). x .ledger) e)
-
--- a line appended where there is room
-pub appended-answer : (t : List ℕ) (lines : ℕ) → ledgerFull t lines ≡ false → appendAnswer t lines ≡ L.Accepted (lines + 1)
-unfolding appendAnswer
-appended-answer t lines h = rw h
-
-pub appended-bytes : (t : List ℕ) (lines : ℕ) (l : Line) → ledgerFull t lines ≡ false → appendBytes t lines l ≡ withLine t lines l
-unfolding appendBytes
-appended-bytes t lines l h = rw h
 
 -- room for two lines
 pub first-free : (t : List ℕ) (lines : ℕ) → ledgerFull t (lines + 1) ≡ false → ledgerFull t lines ≡ false

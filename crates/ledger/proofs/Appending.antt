@@ -1,4 +1,4 @@
--- A line appended: what the lines are then, what stands, and that the ledger stays well formed.
+-- A line appended: what the lines are then, whether the ledger is malformed, and which line stands last.
 -- Assumes nothing.
 use mathlib.Core.Path.{_≡_, refl, sym, ap, _∙_}
 use mathlib.Core.Bool.{Bool, true, false, _&&_, _||_, or-assoc, or-false}
@@ -14,15 +14,14 @@ use Rattle.lists.specs.Choose.{if_then_else_}
 use Rattle.lists.specs.Bytes.{big}
 use Rattle.lists.proofs.BigEndian.{length-bigBytes}
 use Rattle.ledger.specs.declared.Line.{Line}
-use Rattle.ledger.specs.declared.LineAnswer.the-variants.{WellFormed, Malformed}
 use Rattle.ledger.specs.declared.Found.{Found}
 use Rattle.ledger.specs.declared.Found.the-variants.{At, Nothing}
-use Rattle.ledger.specs.Lines.{rightFor, fieldsOf, lineOf, lineNumber, lineBytes, linesOf, someMalformed}
+use Rattle.ledger.specs.declared.LedgerAnswer.the-variants as L
+use Rattle.ledger.specs.Lines.{fieldsOf, lineOf, lineNumber, lineBytes, linesOf, someMalformed, isMalformed}
 use Rattle.ledger.specs.Standing.{withdraws, standing, overdrawn, orElse, lastStanding, cancelled}
-use Rattle.ledger.specs.Ledger.{capacity, ledgerMalformed, withLine}
-use Rattle.ledger.proofs.Packing.{Sized, line-of-bytes}
-use Rattle.ledger.proofs.StandingLaws.{stack, depth, cancelled-is, stack-split}
-use Rattle.ledger.proofs.Scanning.{or-none, malformed-tests, some-split, line-fields}
+use Rattle.ledger.specs.Ledger.{capacity, ledgerMalformed, ledgerFull, withLine, appendAnswer, appendBytes}
+use Rattle.ledger.proofs.StandingLaws.{stack, depth, cancelled-is, stack-split, length-standing}
+use Rattle.ledger.proofs.Scanning.{malformed-tests, some-split}
 
 pub length-line : (l : Line) → length (lineBytes l) ≡ 16
 unfolding lineBytes
@@ -69,9 +68,28 @@ overdrawn-more earlier (x ∷ ls) l =
     let e : (earlier ++ x ∷ []) ++ ls ≡ earlier ++ x ∷ ls = append-assoc earlier (x ∷ []) ls in
     rw (overdrawn-more (earlier ++ x ∷ []) ls l, e) (sym (or-assoc (withdraws x && eqb (length (standing earlier)) 0) (overdrawn (earlier ++ x ∷ []) ls) _))
 
--- a line written after the first n
+-- a line appended where there is room
+pub appended-answer : (t : List ℕ) (lines : ℕ) → ledgerFull t lines ≡ false → appendAnswer t lines ≡ L.Accepted (lines + 1)
+unfolding appendAnswer
+appended-answer t lines h = rw h
 
-module _ (t : List ℕ) (n : ℕ) (l : Line) (room : n < capacity t) (sized : Sized l) (right : rightFor (l .kind) l ≡ true) where
+pub appended-bytes : (t : List ℕ) (lines : ℕ) (l : Line) → ledgerFull t lines ≡ false → appendBytes t lines l ≡ withLine t lines l
+unfolding appendBytes
+appended-bytes t lines l h = rw h
+
+-- the line that the bytes of a line are read as: a field that is too large is cut off
+abbrev pub readAs : Line → Line
+readAs l = fieldsOf (big (lineBytes l))
+
+regroup : (a b c d : Bool) → (a || b) || (c || d) ≡ (a || c) || (b || d)
+regroup true b c d = refl
+regroup false true true d = refl
+regroup false true false d = refl
+regroup false false c d = refl
+
+-- a line written after the first n, whatever its fields
+
+module _ (t : List ℕ) (n : ℕ) (l : Line) (room : n < capacity t) where
   at : drop (n * 16) (withLine t n l) ≡ lineBytes l ++ drop (n * 16 + 16) t
   unfolding withLine
   at = drop-at (take (n * 16) t) _ (n * 16) (length-take-le (n * 16) t (omega arith))
@@ -79,30 +97,27 @@ module _ (t : List ℕ) (n : ℕ) (l : Line) (room : n < capacity t) (sized : Si
   line : take 16 (drop (n * 16) (withLine t n l)) ≡ lineBytes l
   line = rw at (take-at (lineBytes l) _ 16 (length-line l))
 
-  reads : lineOf (lineBytes l) ≡ WellFormed l
-  reads = line-of-bytes l sized right
-
   earlier-lines : linesOf n (withLine t n l) ≡ linesOf n t
   unfolding withLine
   earlier-lines = lines-front n t _ (omega arith)
 
-  one-line : linesOf 1 (drop (n * 16) (withLine t n l)) ≡ l ∷ []
+  one-line : linesOf 1 (drop (n * 16) (withLine t n l)) ≡ readAs l ∷ []
   unfolding linesOf
-  one-line = ap (λ (bs : List ℕ). fieldsOf (big bs) ∷ []) line ∙ ap (λ (x : Line). x ∷ []) (sym (line-fields (lineBytes l) l reads))
+  one-line = ap (λ (bs : List ℕ). fieldsOf (big bs) ∷ []) line
 
-  pub lines-appended : linesOf (n + 1) (withLine t n l) ≡ linesOf n t ++ l ∷ []
+  pub lines-appended : linesOf (n + 1) (withLine t n l) ≡ linesOf n t ++ readAs l ∷ []
   lines-appended = lines-split n 1 (withLine t n l) ∙ rw (earlier-lines, one-line)
 
   earlier-malformed : someMalformed n (withLine t n l) ≡ someMalformed n t
   unfolding withLine
   earlier-malformed = malformed-front n t _ (omega arith)
 
-  one-malformed : someMalformed 1 (drop (n * 16) (withLine t n l)) ≡ false
+  one-malformed : someMalformed 1 (drop (n * 16) (withLine t n l)) ≡ isMalformed (lineOf (lineBytes l))
   unfolding someMalformed
-  one-malformed = rw (line, reads)
+  one-malformed = rw line (or-false (isMalformed (lineOf (lineBytes l))))
 
-  pub malformed-appended : someMalformed (n + 1) (withLine t n l) ≡ someMalformed n t
-  malformed-appended = some-split n 1 (withLine t n l) ∙ rw (earlier-malformed, one-malformed) (or-false (someMalformed n t))
+  malformed-appended : someMalformed (n + 1) (withLine t n l) ≡ someMalformed n t || isMalformed (lineOf (lineBytes l))
+  malformed-appended = some-split n 1 (withLine t n l) ∙ rw (earlier-malformed, one-malformed)
 
   pub length-appended : length (withLine t n l) ≡ length t
   unfolding withLine
@@ -110,14 +125,14 @@ module _ (t : List ℕ) (n : ℕ) (l : Line) (room : n < capacity t) (sized : Si
       let e : n * 16 + 16 ≤ length t = omega arith in
       simp (length-append, length-drop, length-line l, length-take-le (n * 16) t (omega arith)) (omega arith)
 
-  -- the ledger is then malformed exactly where the line is a withdrawal with nothing standing
-  pub ledger-appended : ledgerMalformed t n ≡ false → ledgerMalformed (withLine t n l) (n + 1) ≡ withdraws l && eqb (length (standing (linesOf n t))) 0
-  ledger-appended w =
-      let a = or-none (ltb (capacity t) n) _ (sym (malformed-tests t n) ∙ w) in
-      let b = or-none (someMalformed n t) _ (a .1) in
+  -- the ledger is then malformed as before, or by this line
+  pub ledger-appended : ledgerMalformed (withLine t n l) (n + 1) ≡ ledgerMalformed t n || (isMalformed (lineOf (lineBytes l)) || (withdraws (readAs l) && eqb (length (stack [] (linesOf n t))) 0))
+  ledger-appended =
       let full : ltb (capacity t) (n + 1) ≡ false = le-ltb (capacity t) (n + 1) (omega arith) in
+      let fits : ltb (capacity t) n ≡ false = le-ltb (capacity t) n (omega arith) in
       malformed-tests (withLine t n l) (n + 1)
-      ∙ rw (length-appended, full, malformed-appended, b .0, lines-appended, overdrawn-more [] (linesOf n t) l, b .1)
+      ∙ rw (length-appended, full, malformed-appended, lines-appended, overdrawn-more [] (linesOf n t) (readAs l), length-standing (linesOf n t), malformed-tests t n, fits)
+      (regroup (someMalformed n t) (isMalformed (lineOf (lineBytes l))) (overdrawn [] (linesOf n t)) (withdraws (readAs l) && eqb (length (stack [] (linesOf n t))) 0))
 
 -- the last line that stands is the uppermost of the pile
 

@@ -3,3 +3,4 @@ pub mod Packing
 pub mod StandingLaws
 pub mod Scanning
 pub mod Appending
+pub mod Written

@@ -10,7 +10,7 @@ use native.Mathlib.Omega.{arith}
 use lib.ListN.{length, take, drop}
 use lib.Seq.{drop-drop}
 use lib.Dec.{eqb, ltb}
-use borrow.Author.Tests.{lt-ltb, le-ltb}
+use borrow.Author.Tests.{lt-ltb, le-ltb, ltb-false}
 use Rattle.lists.specs.Choose.{if_then_else_}
 use Rattle.lists.specs.Bytes.{big}
 use Rattle.ledger.specs.declared.Line.{Line}
@@ -198,3 +198,6 @@ malformed-tests t n = refl
 
 pub lines-well : (t : List ℕ) (n : ℕ) → ledgerMalformed t n ≡ false → someMalformed n t ≡ false
 lines-well t n e = or-none (someMalformed n t) _ (or-none (ltb (capacity t) n) _ (sym (malformed-tests t n) ∙ e) .1) .0
+
+pub lines-fit : (t : List ℕ) (n : ℕ) → ledgerMalformed t n ≡ false → n ≤ capacity t
+lines-fit t n e = ltb-false (capacity t) n (or-none (ltb (capacity t) n) _ (sym (malformed-tests t n) ∙ e) .0)

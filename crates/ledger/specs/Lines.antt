@@ -2,7 +2,7 @@
 -- kind 2, year 12, month 4, day 5, pixel 24, old 32, new 32, spare 17.
 use Prim.Native.Nat.{ℕ, zero, suc, _+_, _*_, _/_, _%_, _^_}
 use mathlib.Core.Bool.{Bool, true, false, _&&_, _||_}
-use mathlib.Core.List.{List, [], _∷_}
+use mathlib.Core.List.{List, [], _∷_, _++_}
 use lib.ListN.{length, take, drop}
 use lib.Dec.{eqb, ltb}
 use Rattle.lists.specs.Choose.{if_then_else_}
@@ -83,6 +83,12 @@ lineNumber l =
 unfoldable pub lineBytes : Line → List ℕ
 unfolding lineNumber
 lineBytes l = bigBytes 16 (lineNumber l)
+
+-- the bytes of lines, one after the other
+unfoldable pub linesBytes : List Line → List ℕ
+unfolding lineBytes
+linesBytes [] = []
+linesBytes (l ∷ ls) = lineBytes l ++ linesBytes ls
 
 -- the bytes of the line with this index
 abbrev pub bytesAt : List ℕ → ℕ → List ℕ

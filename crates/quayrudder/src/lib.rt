@@ -16,6 +16,7 @@ ghost use Rattle.header_report.specs.Report.{headerReport};
 ghost use Rattle.reader.specs.Reader.{readAnswer, readPixels};
 ghost use Rattle.ledger.specs.Ledger.{keepAnswer, keepBytes, purgeAnswer};
 ghost use Rattle.listing.specs.Listing.{listAnswer, listBytes};
+ghost use Rattle.compaction.specs.Compact.{compactAnswer, compactBytes};
 ghost use Rattle.writer.specs.Writer.{writeAnswer, writeBytes};
 ghost use Rattle.mar_image.specs.MarImage.{marAnswer, marPixels};
 ghost use Rattle.mar_entry.specs.Entry.{entryOf};
@@ -187,6 +188,15 @@ pub extern "C" fn qr_keep(
         lines,
         ledger::keep(ledger, lines, Date { year, month, day }),
     )
+}
+
+// Leaves the standing lines of a ledger alone.
+#[no_mangle]
+pub extern "C" fn qr_compact(ledger: &mut [u8], lines: u64) -> LedgerResult
+    ensures { λ r. ⌜ r ≡ ledgerResult lines (compactAnswer (now (ledger .entry)) lines) ⌝ }
+    ensures { λ _. ⌜ now (ledger .exit) ≡ compactBytes (now (ledger .entry)) lines ⌝ }
+{
+    ledger_report::ledger_result(lines, compaction::compact(ledger, lines))
 }
 
 // May the frame be purged on this day: 0, or the refusal.

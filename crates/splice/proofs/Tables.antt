@@ -1,20 +1,20 @@
 -- The moves on a buffer that is written as a concatenation: one entry of a padded table put in, taken out or replaced.
 -- Assumes nothing.
 use mathlib.Core.Path.{_≡_, refl, sym, ap, _∙_, subst}
-use mathlib.Core.List.{List, [], _++_, append-assoc}
+use mathlib.Core.List.{List, [], _++_, append-assoc, append-nil}
 use Prim.Native.Nat.{ℕ, _+_, _-_, _≤_, _<_}
 use native.Mathlib.Omega.{arith}
 use mathlib.Core.Bool.{Bool, true, false}
 use mathlib.Core.Logic.{_⊎_, inl, inr, ⊎-elim}
 use lib.Dec.{ltb, leb}
-use borrow.Author.Tests.{ltb-true, ltb-false, leb-true, leb-false}
+use borrow.Author.Tests.{ltb-true, ltb-false, leb-true, leb-false, le-leb, lt-leb}
 use lib.ListN.{length, take, drop, length-append, length-drop, length-replicate, take-append-drop, replicate-append-replicate}
 use lib.Seq.{take-at, drop-at, drop-drop, length-take-le}
 use Rattle.lists.specs.Bytes.{zeros, over, heldBytes, paddedTo}
 use Rattle.layout.specs.Layout.{tableBytes}
 use Rattle.table.specs.Writing.{tableOf, paddedTable}
 use Rattle.table.proofs.Storing.{length-table}
-use Rattle.splice.specs.Moves.{moved, opened, closed, fill, padded, grown, shrunk, resized, tableEdited}
+use Rattle.splice.specs.Moves.{moved, opened, closed, withoutFront, fill, padded, grown, shrunk, resized, tableEdited}
 use Rattle.splice.proofs.Fits.{pad-bounds, pad-same, pad-same-down, pad-more, pad-more-down}
 
 -- writing over X what is as long
@@ -69,6 +69,22 @@ closed-law A G M R at n k a m g =
     ∙ sym (append-assoc A M (drop n W ++ R)))
     ∙ over-law (A ++ M) (drop n W) R (zeros k) (at + n) (length-append A M ∙ (λ i. a i + m i)) (d ∙ sym (length-replicate k 0))
     ∙ append-assoc A M (zeros k ++ R)
+
+-- the first k bytes taken out
+pub front-out : (b : List ℕ) (k : ℕ) → k ≤ length b → withoutFront b k ≡ drop k b ++ zeros k
+unfolding withoutFront
+front-out b k h = rw (le-leb k (length b) h)
+
+pub front-law : (b : List ℕ) (k : ℕ) → k ≤ length b → closed b 0 (length b - k) k ≡ withoutFront b k
+front-law b k h =
+    let parts : b ≡ take k b ++ (drop k b ++ []) = rw append-nil (sym (take-append-drop k b)) in
+    ap (λ (x : List ℕ). closed x 0 (length b - k) k) parts
+    ∙ closed-law [] (take k b) (drop k b) [] 0 (length b - k) k refl (length-drop k b) (length-take-le k b h)
+    ∙ rw append-nil (sym (front-out b k h))
+
+pub front-stays : (b : List ℕ) (k : ℕ) → length b < k → withoutFront b k ≡ b
+unfolding withoutFront
+front-stays b k h = rw (lt-leb k (length b) h)
 
 -- a test came out one way or the other
 pub tested : (t : Bool) → (t ≡ true) ⊎ (t ≡ false)

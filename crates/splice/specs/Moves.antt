@@ -19,6 +19,10 @@ opened b at n k = over at (zeros k) (moved b at (at + k) n)
 unfoldable pub closed : List ℕ → ℕ → ℕ → ℕ → List ℕ
 closed b at n k = over (at + n) (zeros k) (moved b (at + k) at n)
 
+-- b without its first k bytes, and k zeros behind; where it has fewer, b
+unfoldable pub withoutFront : List ℕ → ℕ → List ℕ
+withoutFront b k = if leb k (length b) then drop k b ++ zeros k else b
+
 -- the zeros that bring n bytes to a multiple of 16
 abbrev pub fill : ℕ → ℕ
 fill n = paddedTo 16 n - n

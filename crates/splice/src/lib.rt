@@ -4,7 +4,7 @@ ghost use Prim.Native.Nat.{_+_, _-_, _%_, _≤_, _<_};
 ghost use lib.ListN.{length};
 ghost use Rattle.lists.specs.Choose.{if_then_else_};
 ghost use Rattle.lists.specs.Bytes.{littleBytes, zeros, paddedTo, over};
-ghost use Rattle.splice.specs.Moves.{moved, opened, closed, grown, shrunk, resized, tableEdited, editFits, putFits};
+ghost use Rattle.splice.specs.Moves.{moved, opened, closed, withoutFront, grown, shrunk, resized, tableEdited, editFits, putFits};
 
 // Copies the n bytes at `from` to `to`, which is not before it: from the right end.
 fn move_up(a: &mut [u8], from: usize, to: usize, n: usize)
@@ -210,4 +210,14 @@ pub fn put(a: &mut [u8], at: usize, v: u32, w: usize) -> bool
     }
     put_le(a, at, v, w);
     true
+}
+
+// Takes the first k bytes out: the others move to the front, and k zeros follow them. Where there are fewer every byte stays.
+pub fn drop_front(a: &mut [u8], k: usize)
+    ensures { λ _. ⌜ now (a .exit) ≡ withoutFront (now (a .entry)) k ⌝ }
+{
+    if k <= a.len() {
+        let rest = a.len() - k;
+        close_gap(a, 0, rest, k);
+    }
 }

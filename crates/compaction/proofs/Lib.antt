@@ -1,0 +1,4 @@
+pub mod Laws
+pub mod Gathering
+pub mod Whole
+pub mod Alike
