@@ -2,7 +2,7 @@
 -- Assumes nothing.
 use mathlib.Core.Path.{_≡_, refl, sym, ap, _∙_}
 use mathlib.Core.Bool.{Bool, true, false}
-use mathlib.Core.List.{List, [], _∷_, _++_, append-nil}
+use mathlib.Core.List.{List, [], _∷_}
 use Prim.Native.Nat.{ℕ, _+_, _/_, _^_, _≤_, _<_}
 use native.Mathlib.Omega.{arith}
 use lib.ListN.{length, getD, set}
@@ -23,12 +23,13 @@ use Rattle.ledger.specs.Standing.{lastStanding, anyLine}
 use Rattle.ledger.proofs.Appending.{foundLines}
 use Rattle.opening.specs.declared.OpenAnswer.the-variants.{Opened}
 use Rattle.opening.specs.Open.{openAnswer}
-use Rattle.archive.specs.Calls.{correctionLine}
-use Rattle.model.specs.Model.{Call, correct, withdraw, amend, accepted, refused, Reply, Step, Ran, run, Entry, corrected, kept, Model, Opening, pixelsWith, refuse, accept, correctedBy, written, modelStep, linesFor, addedBy, linesAdded}
+use Rattle.archive.specs.Calls.{correctionLine, withdrawalLine}
+use Rattle.model.specs.Model.{Call, correct, withdraw, amend, accepted, refused, Reply, Step, Ran, run, Entry, corrected, kept, Model, Opening, pixelsWith, refuse, accept, correctedBy, written, modelStep}
+use Rattle.model.specs.Ledger.{Ledger, ledgerBytes, ledgerAfter, ledgerRun}
 use Rattle.model.specs.Run.{State, step, AllCounted}
 use Rattle.model.specs.Theorems.{backAndAnew, TwoSteps, AmendIsTwo, AmendLeavesTwo}
 use Rattle.model.proofs.Held.{Given, Fits}
-use Rattle.model.proofs.Appending.{ledgerWith}
+use Rattle.model.proofs.Appending.{appended-then}
 use Rattle.model.proofs.Agree.{lineStack, Same, stateAt, modelAt, step-agrees, runs-agree, found-last, model-correct, model-withdraw, model-amend}
 use Rattle.model.proofs.Exactly.{later, by-same}
 
@@ -52,7 +53,7 @@ module _ (o : Opening) (p k c n : ℕ) (es : List Entry) (there : p < length (o 
 
   made : (x : WriteAnswer) → leb (o .ledgerLength / 16) (n + 1) ≡ false → written o (set (pixelsWith (o .pixels) es) p c) ≡ x
       → correctedBy m (n + 2) es p c x .reply .answer ≡ accepted → TwoSteps o m p c
-  unfolding run linesAdded
+  unfolding run ledgerRun
   made (W.Refused r) f g q = let z : _≡_ {A = ℕ} 0 1 = cc in absurd (omega arith)
   made (W.Written l) f g q =
       let e : n + 1 + 1 ≡ n + 2 = omega arith in
@@ -63,7 +64,7 @@ module _ (o : Opening) (p k c n : ℕ) (es : List Entry) (there : p < length (o 
       record {
         state = rw (first, second, both);
         replies = rw (first, second);
-        lines = rw (first, second, both);
+        ledger = λ g. rw (first, second, both) (appended-then g (withdrawalLine ∷ []) (correctionLine p (getD (pixelsWith (o .pixels) es) p 0) c ∷ []));
       }
 
   two-steps : modelStep o (amend c) m .reply .answer ≡ accepted → TwoSteps o m p c
@@ -86,44 +87,44 @@ amend-is-two o p k c n es there = two-steps o p k c n es there
 same-frame : (o : Opening) (vs f g : List ℕ) → Fits o vs f → Fits o vs g → f ≡ g
 same-frame o vs f g a b = let e : frame f ≡ frame g = sym (a .made) ∙ b .made in cc
 
-one-call : (o : Opening) (c : Call) (m : Model) → linesAdded o (c ∷ []) m ≡ addedBy o (modelStep o c m .reply .answer) (linesFor o m c)
-unfolding linesAdded
-one-call o c m = append-nil _
+one-call : (o : Opening) (c : Call) (m : Model) (g : Ledger) → ledgerRun o (c ∷ []) m g ≡ ledgerAfter o (modelStep o c m .reply .answer) m c g
+unfolding ledgerRun
+one-call o c m g = refl
 
-module _ (o : Opening) (t : List ℕ) (size : length t ≡ o .ledgerLength) (few : length (o .pixels) ≤ 2 ^ 24) (given : Given o) (c : ℕ) (small : c < 4294967296) where
+module _ (o : Opening) (few : length (o .pixels) ≤ 2 ^ 24) (given : Given o) (c : ℕ) (small : c < 4294967296) where
   -- from a state whose top entry is a correction
-  two-top : {f : List ℕ} {ls : List Line} (p k : ℕ) (es : List Entry) (s : Same o t size few given f ls (corrected p k ∷ es))
-      → step (amend c) (stateAt o t size few given f ls) .reply .answer ≡ accepted
-      → run step (backAndAnew p c) (stateAt o t size few given f ls) .state ≡ step (amend c) (stateAt o t size few given f ls) .state
+  two-top : {f : List ℕ} {ls : Ledger} (p k : ℕ) (es : List Entry) (s : Same o few given f ls (corrected p k ∷ es))
+      → step (amend c) (stateAt o few given f ls) .reply .answer ≡ accepted
+      → run step (backAndAnew p c) (stateAt o few given f ls) .state ≡ step (amend c) (stateAt o few given f ls) .state
   unfolding AllCounted
   two-top {f} {ls} p k es s a =
-      let m : Model = modelAt o t size few given (corrected p k ∷ es) ls in
-      let q = step-agrees o t size few given (amend c) small s in
-      let r = runs-agree o t size few given (backAndAnew p c) (tt, (small, tt)) f ls (corrected p k ∷ es) s in
-      let two = two-steps o p k c (length ls) es (s .good .0) (sym (ap (λ (x : Reply). x .answer) (q .reply)) ∙ a) in
-      let models : modelAt o t size few given (r .entries) (r .lines) ≡ modelAt o t size few given (q .entries) (q .lines) = sym (r .model) ∙ two .state ∙ q .model in
+      let m : Model = modelAt o few given (corrected p k ∷ es) ls in
+      let q = step-agrees o few given (amend c) small s in
+      let r = runs-agree o few given (backAndAnew p c) (tt, (small, tt)) f ls (corrected p k ∷ es) s in
+      let two = two-steps o p k c (length (ls .lines)) es (s .good .0) (sym (ap (λ (x : Reply). x .answer) (q .reply)) ∙ a) in
+      let models : modelAt o few given (r .entries) (r .ledger) ≡ modelAt o few given (q .entries) (q .ledger) = sym (r .model) ∙ two .state ∙ q .model in
       let entries : r .entries ≡ q .entries = ap (λ (x : Model). x .stack) models in
-      let lines : r .lines ≡ q .lines = r .added ∙ ap (λ (x : List Line). ls ++ x) (two .lines ∙ one-call o (amend c) m) ∙ sym (q .added) in
+      let ledgers : r .ledger ≡ q .ledger = r .added ∙ two .ledger ls ∙ one-call o (amend c) m ls ∙ sym (q .added) in
       let frames : r .frame ≡ q .frame = same-frame o (pixelsWith (o .pixels) (q .entries)) (r .frame) (q .frame) (rw entries at (r .same .fits)) (q .same .fits) in
-      r .state ∙ rw (lines, frames) (sym (q .state))
+      r .state ∙ rw (ledgers, frames) (sym (q .state))
 
   kept-refuses : (n : ℕ) (d : Date) (es : List Entry) → modelStep o (amend c) (modelOf (kept d ∷ es) n) .reply .answer ≡ accepted → ⊥
   kept-refuses n d es a =
       let q : refused R.LastIsKeep ≡ accepted = sym (ap (λ (s : Step Model). s .reply .answer) (model-amend o (modelOf (kept d ∷ es) n) c)) ∙ a in
       let z : _≡_ {A = ℕ} 0 1 = cc in omega arith
 
-  two-from : {f : List ℕ} {ls : List Line} (es : List Entry) (s : Same o t size few given f ls es) (i : ℕ) (l : Line)
-      → lastStanding anyLine 0 (linesOf (length ls) (ledgerWith t ls)) ≡ At i l
-      → step (amend c) (stateAt o t size few given f ls) .reply .answer ≡ accepted
-      → run step (backAndAnew (l .pixel) c) (stateAt o t size few given f ls) .state ≡ step (amend c) (stateAt o t size few given f ls) .state
+  two-from : {f : List ℕ} {ls : Ledger} (es : List Entry) (s : Same o few given f ls es) (i : ℕ) (l : Line)
+      → lastStanding anyLine 0 (linesOf (length (ls .lines)) (ledgerBytes ls)) ≡ At i l
+      → step (amend c) (stateAt o few given f ls) .reply .answer ≡ accepted
+      → run step (backAndAnew (l .pixel) c) (stateAt o few given f ls) .state ≡ step (amend c) (stateAt o few given f ls) .state
   unfolding lineStack
   two-from {f} {ls} [] s i l e a =
-      let q : l ∷ [] ≡ [] = sym (ap foundLines e) ∙ found-last o t size few given s in
+      let q : l ∷ [] ≡ [] = sym (ap foundLines e) ∙ found-last o few given s in
       let z : _≡_ {A = ℕ} 0 1 = cc in absurd (omega arith)
   two-from {f} {ls} (kept d ∷ es) s i l e a =
-      absurd (kept-refuses (length ls) d es (sym (ap (λ (x : Reply). x .answer) (step-agrees o t size few given (amend c) small s .reply)) ∙ a))
+      absurd (kept-refuses (length (ls .lines)) d es (sym (ap (λ (x : Reply). x .answer) (step-agrees o few given (amend c) small s .reply)) ∙ a))
   two-from {f} {ls} (corrected p k ∷ es) s i l e a =
-      let q : l ∷ [] ≡ correctionLine p (getD (pixelsWith (o .pixels) es) p 0) k ∷ [] = sym (ap foundLines e) ∙ found-last o t size few given s in
+      let q : l ∷ [] ≡ correctionLine p (getD (pixelsWith (o .pixels) es) p 0) k ∷ [] = sym (ap foundLines e) ∙ found-last o few given s in
       let same : l ≡ correctionLine p (getD (pixelsWith (o .pixels) es) p 0) k = cc in
       rw same (two-top p k es s a)
 
@@ -133,4 +134,4 @@ pub amend-leaves-two : (bytes pixels held ledger : List ℕ) (form : Form) (rows
     → AmendLeavesTwo (later bytes pixels held ledger form rows columns end n byte opened cs counted)
 amend-leaves-two bytes pixels held ledger form rows columns end n byte opened cs counted =
     by-same bytes pixels held ledger form rows columns end n byte opened cs counted AmendLeavesTwo
-    (λ o size few given f ls es s c small i l. two-from o ledger size few given c small es s i l)
+    (λ o few given f ls es s c small i l. two-from o few given c small es s i l)

@@ -23,10 +23,10 @@ use Rattle.ledger.proofs.StandingLaws.{standing-is}
 use Rattle.opening.specs.declared.OpenAnswer.the-variants.{Opened}
 use Rattle.opening.specs.Open.{openAnswer}
 use Rattle.model.specs.Model.{Call, withdraw, mayPurge, accepted, refused, Reply, Step, Model, modelStep, run, Entry, corrected, kept, Opening, isFull, refuse, accept, askedOf, withdrawnFrom}
+use Rattle.model.specs.Ledger.{Ledger, ledgerBytes, emptyLedger}
 use Rattle.model.specs.Run.{State, step, openingOf, openedState, Counted, AllCounted, isAccepted, lastKeepBefore}
 use Rattle.model.proofs.Held.{Given}
-use Rattle.model.proofs.Appending.{ledgerWith}
-use Rattle.model.proofs.Agree.{lineStack, Same, stateAt, modelAt, step-agrees, runs-agree, model-withdraw, model-purge}
+use Rattle.model.proofs.Agree.{lineStack, length-stack, Same, stateAt, modelAt, step-agrees, runs-agree, model-withdraw, model-purge}
 use Rattle.model.proofs.Opened.{start}
 use Rattle.model.proofs.Demand3.{first, at-first}
 
@@ -60,39 +60,33 @@ from-stack o m (e ∷ es) = rw (ne-eqb (suc (length es)) 0 (λ z. omega arith)) 
     go true = refl
     go false = refl
 
-length-stack : (opened : List ℕ) (es : List Entry) → length (lineStack opened es) ≡ length es
-unfolding lineStack
-length-stack opened [] = refl
-length-stack opened (corrected p c ∷ es) = ap suc (length-stack opened es)
-length-stack opened (kept d ∷ es) = ap suc (length-stack opened es)
-
-module _ (o : Opening) (t : List ℕ) (size : length t ≡ o .ledgerLength) (few : length (o .pixels) ≤ 2 ^ 24) (given : Given o)
-    {f : List ℕ} {ls : List Line} {es : List Entry} (s : Same o t size few given f ls es) where
+module _ (o : Opening) (few : length (o .pixels) ≤ 2 ^ 24) (given : Given o)
+    {f : List ℕ} {ls : Ledger} {es : List Entry} (s : Same o few given f ls es) where
   abbrev now : State
-  now = stateAt o t size few given f ls
+  now = stateAt o few given f ls
 
-  stands : standing (linesOf (length ls) (ledgerWith t ls)) ≡ reverse (lineStack (o .pixels) es)
-  stands = rw (s .holds .read) (standing-is ls ∙ rw (s .top))
+  stands : standing (linesOf (length (ls .lines)) (ledgerBytes ls)) ≡ reverse (lineStack (o .pixels) es)
+  stands = rw (s .holds .read) (standing-is (ls .lines) ∙ rw (s .top))
 
-  full : ledgerFull (ledgerWith t ls) (length ls) ≡ isFull o (modelAt o t size few given es ls)
-  full = rw (s .holds .size, size)
+  full : ledgerFull (ledgerBytes ls) (length (ls .lines)) ≡ isFull o (modelAt o few given es ls)
+  full = rw (s .holds .size)
 
-  reply-of : (c : Call) → Counted c → step c now .reply .answer ≡ modelStep o c (modelAt o t size few given es ls) .reply .answer
-  reply-of c k = ap (λ (r : Reply). r .answer) (step-agrees o t size few given c k s .reply)
+  reply-of : (c : Call) → Counted c → step c now .reply .answer ≡ modelStep o c (modelAt o few given es ls) .reply .answer
+  reply-of c k = ap (λ (r : Reply). r .answer) (step-agrees o few given c k s .reply)
 
-  withdraw-exact : isAccepted (step withdraw now .reply .answer) ≡ not (eqb (length (standing (linesOf (length ls) (ledgerWith t ls)))) 0 || ledgerFull (ledgerWith t ls) (length ls))
+  withdraw-exact : isAccepted (step withdraw now .reply .answer) ≡ not (eqb (length (standing (linesOf (length (ls .lines)) (ledgerBytes ls)))) 0 || ledgerFull (ledgerBytes ls) (length (ls .lines)))
   withdraw-exact =
-      let n : length (standing (linesOf (length ls) (ledgerWith t ls))) ≡ length es = ap length stands ∙ length-reverse (lineStack (o .pixels) es) ∙ length-stack (o .pixels) es in
-      ap isAccepted (reply-of withdraw tt ∙ ap (λ (x : Step Model). x .reply .answer) (model-withdraw o (modelAt o t size few given es ls)))
-      ∙ from-stack o (modelAt o t size few given es ls) es
+      let n : length (standing (linesOf (length (ls .lines)) (ledgerBytes ls))) ≡ length es = ap length stands ∙ length-reverse (lineStack (o .pixels) es) ∙ length-stack (o .pixels) es in
+      ap isAccepted (reply-of withdraw tt ∙ ap (λ (x : Step Model). x .reply .answer) (model-withdraw o (modelAt o few given es ls)))
+      ∙ from-stack o (modelAt o few given es ls) es
       ∙ rw (n, full)
 
-  purge-exact : (day : Date) → isAccepted (step (mayPurge day) now .reply .answer) ≡ (isDate day && lastKeepBefore day false (standing (linesOf (length ls) (ledgerWith t ls))))
+  purge-exact : (day : Date) → isAccepted (step (mayPurge day) now .reply .answer) ≡ (isDate day && lastKeepBefore day false (standing (linesOf (length (ls .lines)) (ledgerBytes ls))))
   purge-exact day =
-      ap isAccepted (reply-of (mayPurge day) tt ∙ ap (λ (x : Step Model). x .reply .answer) (model-purge o (modelAt o t size few given es ls) day))
+      ap isAccepted (reply-of (mayPurge day) tt ∙ ap (λ (x : Step Model). x .reply .answer) (model-purge o (modelAt o few given es ls) day))
       ∙ go (isDate day)
     where
-      go : (b : Bool) → isAccepted (if_then_else_ (not b) (refused R.NotADate) (askedOf day es)) ≡ (b && lastKeepBefore day false (standing (linesOf (length ls) (ledgerWith t ls))))
+      go : (b : Bool) → isAccepted (if_then_else_ (not b) (refused R.NotADate) (askedOf day es)) ≡ (b && lastKeepBefore day false (standing (linesOf (length (ls .lines)) (ledgerBytes ls))))
       go true = rw stands (asked-is (o .pixels) day es)
       go false = refl
 
@@ -103,25 +97,25 @@ module _ (bytes pixels held ledger : List ℕ) (form : Form) (rows columns end n
   later = run step cs (openedState bytes pixels form held ledger) .state
 
   module _ (P : State → Type 0) where
-    pub by-same : ((o : Opening) (size : length ledger ≡ o .ledgerLength) (few : length (o .pixels) ≤ 2 ^ 24) (given : Given o)
-        (f : List ℕ) (ls : List Line) (es : List Entry) → Same o ledger size few given f ls es → P (stateAt o ledger size few given f ls)) → P later
+    pub by-same : ((o : Opening) (few : length (o .pixels) ≤ 2 ^ 24) (given : Given o)
+        (f : List ℕ) (ls : Ledger) (es : List Entry) → Same o few given f ls es → P (stateAt o few given f ls)) → P later
     unfolding openingOf
     by-same k =
         let s = start bytes pixels held ledger form rows columns end byte n opened in
         let o : Opening = openingOf bytes pixels form held ledger in
-        let r = runs-agree o ledger refl (s .few) (s .given) cs counted (s .frame) [] [] (first o ledger refl s) in
-        subst P (sym (ap (λ (x : State). run step cs x .state) (at-first o ledger refl s) ∙ r .state)) (k o refl (s .few) (s .given) (r .frame) (r .lines) (r .entries) (r .same))
+        let r = runs-agree o (s .few) (s .given) cs counted (s .frame) (emptyLedger ledger) [] (first o ledger refl s) in
+        subst P (sym (ap (λ (x : State). run step cs x .state) (at-first o ledger refl s) ∙ r .state)) (k o (s .few) (s .given) (r .frame) (r .ledger) (r .entries) (r .same))
 
   -- A withdrawal is refused exactly if no line stands or the ledger is full.
   pub withdrawal-refused : isAccepted (step withdraw later .reply .answer)
       ≡ not (eqb (length (standing (linesOf (later .lines) (later .ledger)))) 0 || ledgerFull (later .ledger) (later .lines))
   withdrawal-refused =
       by-same (λ x. isAccepted (step withdraw x .reply .answer) ≡ not (eqb (length (standing (linesOf (x .lines) (x .ledger)))) 0 || ledgerFull (x .ledger) (x .lines)))
-      (λ o size few given f ls es s. withdraw-exact o ledger size few given s)
+      (λ o few given f ls es s. withdraw-exact o few given s)
 
   -- A purge is allowed exactly if the day asked is a calendar date, a keep line stands and the last one standing has a date before that day.
   pub purge-allowed : (day : Date) → isAccepted (step (mayPurge day) later .reply .answer)
       ≡ (isDate day && lastKeepBefore day false (standing (linesOf (later .lines) (later .ledger))))
   purge-allowed day =
       by-same (λ x. isAccepted (step (mayPurge day) x .reply .answer) ≡ (isDate day && lastKeepBefore day false (standing (linesOf (x .lines) (x .ledger)))))
-      (λ o size few given f ls es s. purge-exact o ledger size few given s day)
+      (λ o few given f ls es s. purge-exact o few given s day)

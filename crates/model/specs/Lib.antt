@@ -1,3 +1,4 @@
 pub mod Model
+pub mod Ledger
 pub mod Run
 pub mod Theorems

@@ -1,8 +1,8 @@
--- Document 01, "The plain book", with document 02's A6: the reference model that demand 3 compares with.
+-- Document 01, "The plain book", with document 02's A6 and A8: the reference model that demand 3 compares with.
 use Prim.Native.Nat.{ℕ, _+_, _/_}
 use mathlib.Core.Bool.{Bool, not}
-use mathlib.Core.List.{List, [], _∷_, _++_}
-use lib.ListN.{length, getD, set}
+use mathlib.Core.List.{List, [], _∷_}
+use lib.ListN.{length, set}
 use lib.Dec.{leb}
 use Rattle.lists.specs.Choose.{if_then_else_}
 use Rattle.refusal.specs.declared.Refusal.{Refusal}
@@ -17,15 +17,15 @@ use Rattle.calendar.specs.Calendar.{isDate, before}
 use Rattle.ledger.specs.declared.Kind.{Kind}
 use Rattle.ledger.specs.declared.Kind.the-variants.{Correction, Keep}
 use Rattle.ledger.specs.declared.Line.{Line}
-use Rattle.ledger.specs.Ledger.{keepLine}
-use Rattle.archive.specs.Calls.{noDate, correctionLine, withdrawalLine}
+use Rattle.archive.specs.Calls.{noDate}
 
--- the calls, each with its own arguments: a pixel number and a count, a date, nothing, a count, the day asked
+-- the calls, each with its own arguments: a pixel number and a count, a date, nothing, a count, nothing, the day asked
 pub data Call : Type 0 where
   correct : ℕ → ℕ → Call
   keep : Date → Call
   withdraw : Call
   amend : ℕ → Call
+  compact : Call
   mayPurge : Date → Call
 
 pub data Answer : Type 0 where
@@ -148,37 +148,13 @@ module _ (o : Opening) where
   modelStep withdraw m = withdrawnFrom m (m .stack)
   -- amending: 22, 31, 21, 17 or 18
   modelStep (amend count) m = amendedFrom m count (m .stack)
+  -- compaction: the stack stays, and a line is used for each of its entries
+  modelStep compact m = accept (length (m .stack)) (m .stack)
   -- purge question: 25, 26, 27; it changes nothing
   modelStep (mayPurge day) m = record {
     reply = record { answer = if not (isDate day) then refused R.NotADate else askedOf day (m .stack); lines = m .lines };
     state = m;
   }
-
-  -- the two lines of amending: the old count is that of the pixels without the entry taken back
-  abbrev pub amendLines : ℕ → List Entry → List Line
-  amendLines count [] = []
-  amendLines count (kept d ∷ es) = []
-  amendLines count (corrected pixel old ∷ es) =
-      withdrawalLine ∷ correctionLine pixel (getD (pixelsWith (o .pixels) es) pixel 0) count ∷ []
-
-  -- the lines of "The ledger" for a call, the model's count as the old one; a purge question has none
-  abbrev pub linesFor : Model → Call → List Line
-  linesFor m (correct pixel count) = correctionLine pixel (getD (modelPixels m) pixel 0) count ∷ []
-  linesFor m (keep d) = keepLine d ∷ []
-  linesFor m withdraw = withdrawalLine ∷ []
-  linesFor m (amend count) = amendLines count (m .stack)
-  linesFor m (mayPurge day) = []
-
-  -- an accepted call adds its lines, a refused one none
-  abbrev pub addedBy : Answer → List Line → List Line
-  addedBy accepted ls = ls
-  addedBy (refused r) ls = []
-
-  -- the lines that the calls of a list add, in order
-  unfoldable pub linesAdded : List Call → Model → List Line
-  unfolding modelStep
-  linesAdded [] m = []
-  linesAdded (c ∷ cs) m = addedBy (modelStep c m .reply .answer) (linesFor m c) ++ linesAdded cs (modelStep c m .state)
 
 -- what a line and an entry are compared by
 pub record Seen : Type 0 where

@@ -1,7 +1,7 @@
 -- The calls on real bytes, by the definitions that the public contracts cite.
 use Prim.Native.Nat.{ℕ, _<_}
 use mathlib.Core.Bool.{Bool, true, false}
-use mathlib.Core.List.{List, [], _∷_, _++_}
+use mathlib.Core.List.{List, [], _∷_}
 use lib.ListN.{length, take}
 use Rattle.lists.specs.Choose.{if_then_else_}
 use Rattle.layout.specs.declared.Form.{Form}
@@ -18,12 +18,12 @@ use Rattle.ledger.specs.declared.LedgerAnswer.the-variants as L
 use Rattle.ledger.specs.declared.PurgeAnswer.{PurgeAnswer}
 use Rattle.ledger.specs.declared.PurgeAnswer.the-variants as P
 use Rattle.calendar.specs.Calendar.{before}
-use Rattle.ledger.specs.Lines.{lineBytes}
 use Rattle.ledger.specs.Standing.{keeps}
 use Rattle.ledger.specs.Ledger.{keepAnswer, keepBytes, purgeAnswer}
+use Rattle.compaction.specs.Compact.{compactAnswer, compactBytes}
 use Rattle.opening.specs.Open.{openHeld}
 use Rattle.archive.specs.Calls.{Outcome, correctOutcome, withdrawOutcome, amendOutcome}
-use Rattle.model.specs.Model.{Call, correct, keep, withdraw, amend, mayPurge, Answer, accepted, refused, Step, Opening}
+use Rattle.model.specs.Model.{Call, correct, keep, withdraw, amend, compact, mayPurge, Answer, accepted, refused, Step, Opening}
 
 -- the held buffer and the ledger as the last call left them, and the number of lines that it gave
 pub record State : Type 0 where
@@ -62,6 +62,7 @@ step (correct pixel count) s = afterOutcome (s .lines) (correctOutcome (s .held)
 step (keep d) s = after (s .lines) (keepAnswer (s .ledger) (s .lines) d) (s .held) (keepBytes (s .ledger) (s .lines) d)
 step withdraw s = afterOutcome (s .lines) (withdrawOutcome (s .held) (s .ledger) (s .lines))
 step (amend count) s = afterOutcome (s .lines) (amendOutcome (s .held) (s .ledger) (s .lines) count)
+step compact s = after (s .lines) (compactAnswer (s .ledger) (s .lines)) (s .held) (compactBytes (s .ledger) (s .lines))
 step (mayPurge day) s =
     record { reply = record { answer = purged (purgeAnswer (s .ledger) (s .lines) day); lines = s .lines }; state = s }
 
@@ -84,18 +85,13 @@ openingOf frame pixels form held ledger = record {
 abbrev pub openedState : List ℕ → List ℕ → Form → List ℕ → List ℕ → State
 openedState frame pixels form held ledger = stateOf (openHeld frame pixels (F.Listed form) held) ledger 0
 
--- the bytes of lines, one after the other
-unfoldable pub linesBytes : List Line → List ℕ
-unfolding lineBytes
-linesBytes [] = []
-linesBytes (l ∷ ls) = lineBytes l ++ linesBytes ls
-
 -- a count has 32 bits, as the public functions take it; pixel numbers and the fields of a date may be any
 abbrev pub Counted : Call → Type 0
 Counted (correct pixel count) = count < 4294967296
 Counted (keep d) = Unit {0}
 Counted withdraw = Unit {0}
 Counted (amend count) = count < 4294967296
+Counted compact = Unit {0}
 Counted (mayPurge day) = Unit {0}
 
 unfoldable pub AllCounted : List Call → Type 0

@@ -1,25 +1,28 @@
--- Request A6: what amending is, beside demand 3. proofs/Amended.antt proves both statements.
+-- What requests A6 and A8 ask besides demand 3. proofs/Amended.antt and proofs/Compacted.antt prove these statements.
 use Prim.Native.Nat.{ℕ, _+_, _<_}
 use mathlib.Core.Path.{_≡_}
-use mathlib.Core.List.{List, [], _∷_}
+use mathlib.Core.List.{List, [], _∷_, map}
 use lib.ListN.{length}
+use Rattle.refusal.specs.declared.Refusal.the-variants as R
+use Rattle.calendar.specs.declared.Date.{Date}
 use Rattle.ledger.specs.declared.Line.{Line}
 use Rattle.ledger.specs.declared.Found.the-variants.{At}
 use Rattle.ledger.specs.Lines.{linesOf}
 use Rattle.ledger.specs.Standing.{lastStanding, anyLine}
-use Rattle.model.specs.Model.{Call, correct, withdraw, amend, Answer, accepted, run, Entry, corrected, Model, Opening, modelStep, linesAdded}
+use Rattle.model.specs.Model.{Call, correct, withdraw, amend, compact, mayPurge, Answer, accepted, refused, Reply, Ran, run, Entry, corrected, Model, Opening, modelStep}
+use Rattle.model.specs.Ledger.{Ledger, ledgerRun}
 use Rattle.model.specs.Run.{State, step}
 
--- a withdrawal, and then a correction
+-- A6: a withdrawal, and then a correction
 abbrev pub backAndAnew : ℕ → ℕ → List Call
 backAndAnew pixel count = withdraw ∷ correct pixel count ∷ []
 
--- In the model: the two steps are both accepted, the state after them is that after amending, and they add the same lines.
+-- In the model: the two steps are both accepted, and the state and the ledger after them are those after amending.
 pub record TwoSteps (o : Opening) (m : Model) (pixel count : ℕ) : Type 0 where
   pub state : run (modelStep o) (backAndAnew pixel count) m .state ≡ modelStep o (amend count) m .state
   pub replies : run (modelStep o) (backAndAnew pixel count) m .replies
       ≡ record { answer = accepted; lines = m .lines + 1 } ∷ record { answer = accepted; lines = m .lines + 2 } ∷ []
-  pub lines : linesAdded o (backAndAnew pixel count) m ≡ linesAdded o (amend count ∷ []) m
+  pub ledger : (g : Ledger) → ledgerRun o (backAndAnew pixel count) m g ≡ ledgerRun o (amend count ∷ []) m g
 
 -- amending accepted with a correction of a pixel that is there on top
 abbrev pub AmendIsTwo : Opening → Type 0
@@ -33,3 +36,30 @@ abbrev pub AmendLeavesTwo : State → Type 0
 AmendLeavesTwo s =
     (count : ℕ) → count < 4294967296 → (i : ℕ) (l : Line) → lastStanding anyLine 0 (linesOf (s .lines) (s .ledger)) ≡ At i l
     → step (amend count) s .reply .answer ≡ accepted → run step (backAndAnew (l .pixel) count) s .state ≡ step (amend count) s .state
+
+-- A8: what a run gave back without the numbers of lines
+abbrev pub answers : List Reply → List Answer
+answers rs = map (λ (r : Reply). r .answer) rs
+
+-- no answer of a run is refusal 21
+abbrev pub NeverFull : List Reply → Type 0
+NeverFull [] = Unit {0}
+NeverFull (r ∷ rs) = (r .answer ≡ refused R.LedgerFull → ⊥) × NeverFull rs
+
+-- two runs gave the same answers and left the same held buffer
+pub record SameRun (q r : Ran State) : Type 0 where
+  pub answers : answers (r .replies) ≡ answers (q .replies)
+  pub held : r .state .held ≡ q .state .held
+
+-- On real bytes, of every held buffer, ledger and number of lines: further calls that meet no 21 without compaction are answered as without it, and leave the
+-- same frame. They may amend and compact in their turn; since each beginning of such a list is one too, the frames are the same after each call.
+abbrev pub CompactionUnseen : Type 0
+CompactionUnseen = (s : State) (cs : List Call) → NeverFull (run step cs s .replies) → SameRun (run step cs s) (run step cs (step compact s .state))
+
+-- and every purge question is answered as without it
+abbrev pub PurgeUnseen : Type 0
+PurgeUnseen = (s : State) (day : Date) → step (mayPurge day) (step compact s .state) .reply .answer ≡ step (mayPurge day) s .reply .answer
+
+-- a compacted ledger compacted again: the same answer, and nothing changes
+abbrev pub CompactedTwice : Type 0
+CompactedTwice = (s : State) → step compact (step compact s .state) ≡ step compact s
