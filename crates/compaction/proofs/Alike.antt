@@ -19,7 +19,7 @@ use Rattle.ledger.proofs.Scanning.{lines-well, lines-fit, length-lines}
 use Rattle.ledger.proofs.Appending.{readAs, lines-appended, length-appended, ledger-appended, foundLines, firstWhere, last-is-top}
 use Rattle.ledger.proofs.Written.{lines-writable}
 use Rattle.compaction.specs.Compact.{compacted, compactAnswer, compactBytes}
-use Rattle.compaction.proofs.Laws.{compacted-length, compacted-read, compacted-well, stack-again}
+use Rattle.compaction.proofs.Laws.{standing-again, stack-again, compacted-length, compacted-behind, compacted-again, compacted-read, compacted-well}
 
 pub record Alike (t : List ℕ) (n : ℕ) (u : List ℕ) (k : ℕ) : Type 0 where
   pub size : length u ≡ length t
@@ -98,3 +98,14 @@ alike-first t n w =
 
 pub alike-itself : (t : List ℕ) (n : ℕ) → Alike t n t n
 alike-itself t n = record { size = refl; fewer = omega arith; malformed = refl; top = refl }
+
+-- compacted again
+
+pub compacted-twice : (t : List ℕ) (n : ℕ) → ledgerMalformed t n ≡ false
+    → (let u = compacted (linesOf n t) (drop (n * 16) t) in let k = length (standing (linesOf n t)) in
+    (length (standing (linesOf k u)) ≡ k) × (compacted (linesOf k u) (drop (k * 16) u) ≡ u))
+compacted-twice t n w =
+    let ls : List Line = linesOf n t in
+    let r : List ℕ = drop (n * 16) t in
+    let h = lines-writable n t (lines-well t n w) in
+    (rw (compacted-read ls r h, standing-again ls), rw (compacted-read ls r h, compacted-behind ls r) (compacted-again ls r))

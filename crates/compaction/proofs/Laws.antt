@@ -5,7 +5,8 @@ use mathlib.Core.Bool.{Bool, true, false, not, _&&_}
 use mathlib.Core.List.{List, [], _∷_, _++_, reverse, reverse-reverse}
 use Prim.Native.Nat.{ℕ, _+_, _-_, _*_}
 use native.Mathlib.Omega.{arith}
-use lib.ListN.{length, length-append, length-replicate}
+use lib.ListN.{length, drop, length-append, length-replicate}
+use lib.Seq.{drop-at}
 use Rattle.lists.specs.Bytes.{zeros}
 use Rattle.ledger.specs.declared.Line.{Line}
 use Rattle.ledger.specs.Lines.{linesOf, linesBytes}
@@ -70,6 +71,18 @@ module _ (ls : List Line) (r : List ℕ) where
   unfolding compacted
   compacted-length =
       simp (length-append, length-replicate, length-lines-bytes) (omega (arith, standing-small ls))
+
+  -- behind its lines
+  pub compacted-behind : drop (length (standing ls) * 16) (compacted ls r) ≡ behindStanding ls r
+  unfolding compacted
+  compacted-behind = drop-at (linesBytes (standing ls)) (behindStanding ls r) (length (standing ls) * 16) (length-lines-bytes (standing ls))
+
+  -- its lines are all left
+  pub compacted-again : compacted (standing ls) (behindStanding ls r) ≡ compacted ls r
+  unfolding compacted
+  compacted-again =
+      let none : (length (standing ls) - length (standing ls)) * 16 ≡ 0 = omega arith in
+      rw (standing-again ls, none)
 
   module _ (h : Each Writable ls) where
     pub compacted-read : linesOf (length (standing ls)) (compacted ls r) ≡ standing ls

@@ -9,3 +9,4 @@ pub mod Exactly
 pub mod Refusals
 pub mod Prefix
 pub mod Amended
+pub mod Compacted

@@ -38,8 +38,8 @@ AmendLeavesTwo s =
     → step (amend count) s .reply .answer ≡ accepted → run step (backAndAnew (l .pixel) count) s .state ≡ step (amend count) s .state
 
 -- A8: what a run gave back without the numbers of lines
-abbrev pub answers : List Reply → List Answer
-answers rs = map (λ (r : Reply). r .answer) rs
+abbrev pub answersOf : List Reply → List Answer
+answersOf rs = map (λ (r : Reply). r .answer) rs
 
 -- no answer of a run is refusal 21
 abbrev pub NeverFull : List Reply → Type 0
@@ -48,7 +48,7 @@ NeverFull (r ∷ rs) = (r .answer ≡ refused R.LedgerFull → ⊥) × NeverFull
 
 -- two runs gave the same answers and left the same held buffer
 pub record SameRun (q r : Ran State) : Type 0 where
-  pub answers : answers (r .replies) ≡ answers (q .replies)
+  pub answers : answersOf (r .replies) ≡ answersOf (q .replies)
   pub held : r .state .held ≡ q .state .held
 
 -- On real bytes, of every held buffer, ledger and number of lines: further calls that meet no 21 without compaction are answered as without it, and leave the
