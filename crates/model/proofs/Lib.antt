@@ -10,3 +10,4 @@ pub mod Refusals
 pub mod Prefix
 pub mod Amended
 pub mod Compacted
+pub mod Behind

@@ -1,16 +1,17 @@
--- What requests A6 and A8 ask besides demand 3. proofs/Amended.antt and proofs/Compacted.antt prove these statements.
-use Prim.Native.Nat.{ℕ, _+_, _<_}
+-- What requests A6 and A8 ask besides demand 3. proofs/Amended.antt, Compacted.antt and Behind.antt prove these statements.
+use Prim.Native.Nat.{ℕ, _+_, _*_, _<_}
 use mathlib.Core.Path.{_≡_}
+use mathlib.Core.Bool.{Bool, true, false}
 use mathlib.Core.List.{List, [], _∷_, map}
-use lib.ListN.{length}
+use lib.ListN.{length, drop}
 use Rattle.refusal.specs.declared.Refusal.the-variants as R
 use Rattle.calendar.specs.declared.Date.{Date}
 use Rattle.ledger.specs.declared.Line.{Line}
 use Rattle.ledger.specs.declared.Found.the-variants.{At}
 use Rattle.ledger.specs.Lines.{linesOf}
 use Rattle.ledger.specs.Standing.{lastStanding, anyLine}
-use Rattle.model.specs.Model.{Call, correct, withdraw, amend, compact, mayPurge, Answer, accepted, refused, Reply, Ran, run, Entry, corrected, Model, Opening, modelStep}
-use Rattle.model.specs.Ledger.{Ledger, ledgerRun}
+use Rattle.model.specs.Model.{Call, correct, keep, withdraw, amend, compact, mayPurge, Answer, accepted, refused, Reply, Ran, run, Entry, corrected, Model, Opening, emptyModel, modelStep}
+use Rattle.model.specs.Ledger.{Ledger, emptyLedger, ledgerRun}
 use Rattle.model.specs.Run.{State, step}
 
 -- A6: a withdrawal, and then a correction
@@ -63,3 +64,21 @@ PurgeUnseen = (s : State) (day : Date) → step (mayPurge day) (step compact s .
 -- a compacted ledger compacted again: the same answer, and nothing changes
 abbrev pub CompactedTwice : Type 0
 CompactedTwice = (s : State) → step compact (step compact s .state) ≡ step compact s
+
+-- Where no call compacts, the bytes behind the lines are those that the ledger had there at first.
+abbrev pub isCompact : Call → Bool
+isCompact (correct pixel count) = false
+isCompact (keep d) = false
+isCompact withdraw = false
+isCompact (amend count) = false
+isCompact compact = true
+isCompact (mayPurge day) = false
+
+abbrev pub NeverCompact : List Call → Type 0
+NeverCompact [] = Unit {0}
+NeverCompact (c ∷ cs) = (isCompact c ≡ false) × NeverCompact cs
+
+abbrev pub BehindStays : Type 0
+BehindStays =
+    (o : Opening) (before : List ℕ) (cs : List Call) → NeverCompact cs
+    → (let g = ledgerRun o cs emptyModel (emptyLedger before) in g .behind ≡ drop (length (g .lines) * 16) before)

@@ -127,6 +127,7 @@ lines-given (M.correct pixel count) s = refl
 lines-given (M.keep d) s = refl
 lines-given M.withdraw s = refl
 lines-given (M.amend count) s = refl
+lines-given M.compact s = refl
 lines-given (M.mayPurge day) s = refl
 
 -- the calls fit both lists

@@ -12,7 +12,7 @@ use Rattle.layout.specs.declared.Form.{Form}
 use Rattle.writer.specs.declared.AskedForm.the-variants as F
 use Rattle.opening.specs.declared.OpenAnswer.the-variants.{Opened}
 use Rattle.opening.specs.Open.{openAnswer, openHeld}
-use Rattle.model.specs.Model.{Call, correct, keep, withdraw, amend, mayPurge, run, modelStep, emptyModel}
+use Rattle.model.specs.Model.{Call, correct, keep, withdraw, amend, compact, mayPurge, run, modelStep, emptyModel}
 use Rattle.model.specs.Run.{step, openingOf, openedState, Counted, AllCounted}
 use Rattle.model.proofs.Demand3.{Agreement, demand3}
 use Rattle.replay.specs.Replay.{dateOf, callOf, callsFrom, played}
@@ -20,14 +20,16 @@ use Rattle.replay.specs.Replay.{dateOf, callOf, callsFrom, played}
 -- the counts of calls in numbers of 32 bits have 32 bits
 call-counted : (kind a b c : ℕ) → b < 4294967296 → Counted (callOf kind a b c)
 unfolding callOf
-call-counted kind a b c h = go (eqb kind 0) (eqb kind 1) (eqb kind 2) (eqb kind 3)
+call-counted kind a b c h = go (eqb kind 0) (eqb kind 1) (eqb kind 2) (eqb kind 3) (eqb kind 4)
   where
-    go : (p q r s : Bool) → Counted (if_then_else_ p (correct a b) (if_then_else_ q (keep (dateOf a b c)) (if_then_else_ r withdraw (if_then_else_ s (amend b) (mayPurge (dateOf a b c))))))
-    go true q r s = h
-    go false true r s = tt
-    go false false true s = tt
-    go false false false true = h
-    go false false false false = tt
+    go : (p q r s t : Bool)
+        → Counted (if_then_else_ p (correct a b) (if_then_else_ q (keep (dateOf a b c)) (if_then_else_ r withdraw (if_then_else_ s (amend b) (if_then_else_ t compact (mayPurge (dateOf a b c)))))))
+    go true q r s t = h
+    go false true r s t = tt
+    go false false true s t = tt
+    go false false false true t = h
+    go false false false false true = tt
+    go false false false false false = tt
 
 all-counted : (n : ℕ) (t : List ℕ) → ((i : ℕ) → getD t i 0 < 4294967296) → AllCounted (callsFrom n t)
 unfolding callsFrom AllCounted

@@ -9,7 +9,7 @@ use Rattle.calendar.specs.declared.Date.{Date}
 use Rattle.ledger.specs.declared.LedgerAnswer.{LedgerAnswer}
 use Rattle.ledger.specs.declared.PurgeAnswer.{PurgeAnswer}
 use Rattle.model.specs.Model as M
-use Rattle.model.specs.Model.{Call, correct, keep, withdraw, amend, mayPurge, Answer, accepted, refused, Ran, run}
+use Rattle.model.specs.Model.{Call, correct, keep, withdraw, amend, compact, mayPurge, Answer, accepted, refused, Ran, run}
 use Rattle.model.specs.Run.{State, stateOf, step, answered, linesAfter, purged}
 use Rattle.replay.specs.declared.Reply.{Reply}
 
@@ -37,6 +37,7 @@ callOf kind a b c =
     if eqb kind 1 then keep (dateOf a b c) else
     if eqb kind 2 then withdraw else
     if eqb kind 3 then amend b else
+    if eqb kind 4 then compact else
     mayPurge (dateOf a b c)
 
 -- the first n calls

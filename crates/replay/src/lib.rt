@@ -41,8 +41,8 @@ fn purge_reply(lines: u64, answer: PurgeAnswer) -> Reply
     }
 }
 
-// One call: 0 a correction of pixel a to the count b, 1 a keep entry of the date a, b, c, 2 a withdrawal, 3 an amending to the count b, any other kind
-// a purge question.
+// One call: 0 a correction of pixel a to the count b, 1 a keep entry of the date a, b, c, 2 a withdrawal, 3 an amending to the count b, 4 a compaction,
+// any other kind a purge question.
 fn make_call(
     held: &mut [u8],
     ledger: &mut [u8],
@@ -66,6 +66,7 @@ fn make_call(
         1 => ledger_reply(lines, ledger::keep(ledger, lines, date)),
         2 => ledger_reply(lines, archive::withdraw(held, ledger, lines)),
         3 => ledger_reply(lines, archive::amend(held, ledger, lines, b)),
+        4 => ledger_reply(lines, compaction::compact(ledger, lines)),
         _ => purge_reply(lines, ledger::may_purge(ledger, lines, date)),
     }
 }

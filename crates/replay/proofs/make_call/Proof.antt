@@ -1,18 +1,10 @@
-use Rattle.replay.specs.Replay.{ledgerReply, purgeReply, callOf}
-use Rattle.model.specs.Run.{step}
-use borrow.Author.Tests.{ne-eqb}
 use mathlib.Core.Path.{ap, _∙_}
+use borrow.Author.Tests.{ne-eqb}
+use Rattle.model.specs.Run.{step}
+use Rattle.replay.specs.Replay.{ledgerReply, purgeReply, callOf}
 use borrow.Author.Needs.{needs}
 use Rattle.replay.proofs.make_call.Statement.{statement}
 use Rattle.replay.proofs.make_call.Tie as tie
-use Rattle.replay.proofs.make_call.Reads as reads
-use Rattle.replay.proofs.make_call.Lts as lts
-use Rattle.archive.proofs.correct.Reads as correct-reads
-use Rattle.archive.proofs.withdraw.Reads as withdraw-reads
-use Rattle.ledger.proofs.keep.Reads as keep-reads
-use Rattle.ledger.proofs.may_purge.Reads as may-purge-reads
-use Rattle.replay.proofs.ledger_reply.Reads as ledger-reply-reads
-use Rattle.replay.proofs.purge_reply.Reads as purge-reply-reads
 
 correct-requires : tie.Need-correct-requires
 correct-requires c κs = search needs
@@ -37,6 +29,12 @@ amend-requires c κs = search needs
 
 ledger-reply-requires-4 : tie.Need-ledger-reply-requires-4
 ledger-reply-requires-4 c κs = search needs
+
+compact-requires : tie.Need-compact-requires
+compact-requires c κs = search needs
+
+ledger-reply-requires-5 : tie.Need-ledger-reply-requires-5
+ledger-reply-requires-5 c κs = search needs
 
 may-purge-requires : tie.Need-may-purge-requires
 may-purge-requires c κs = search needs
@@ -86,7 +84,14 @@ same-length-8 c = search needs
 
 returns-5 : tie.Need-returns-5
 unfolding callOf step
-returns-5 c = (rw (ne-eqb _ 0 (c .before .before .before .match .rest .0 .0 .0 .1), ne-eqb _ 1 (c .before .before .before .match .rest .0 .0 .1), ne-eqb _ 2 (c .before .before .before .match .rest .0 .1), ne-eqb _ 3 (c .before .before .before .match .rest .1)) (c .purge-reply .ensures ∙ ap (purgeReply _) (c .before .may-purge .ensures)), (rw (ne-eqb _ 0 (c .before .before .before .match .rest .0 .0 .0 .1), ne-eqb _ 1 (c .before .before .before .match .rest .0 .0 .1), ne-eqb _ 2 (c .before .before .before .match .rest .0 .1), ne-eqb _ 3 (c .before .before .before .match .rest .1)), rw (ne-eqb _ 0 (c .before .before .before .match .rest .0 .0 .0 .1), ne-eqb _ 1 (c .before .before .before .match .rest .0 .0 .1), ne-eqb _ 2 (c .before .before .before .match .rest .0 .1), ne-eqb _ 3 (c .before .before .before .match .rest .1))))
+returns-5 c = (rw (c .before .before .before .before .before .match .keys5) (c .ledger-reply5 .ensures ∙ ap (ledgerReply _) (c .before .before .before .compact .ensures .0)), (rw (c .before .before .before .before .before .match .keys5), rw (c .before .before .before .before .before .match .keys5) (c .before .before .before .compact .ensures .1)))
+
+same-length-9 : tie.Need-same-length-9
+same-length-9 c = search needs
+
+returns-6 : tie.Need-returns-6
+unfolding callOf step
+returns-6 c = (rw (ne-eqb _ 0 (c .before .before .before .match .rest .0 .0 .0 .0 .1), ne-eqb _ 1 (c .before .before .before .match .rest .0 .0 .0 .1), ne-eqb _ 2 (c .before .before .before .match .rest .0 .0 .1), ne-eqb _ 3 (c .before .before .before .match .rest .0 .1), ne-eqb _ 4 (c .before .before .before .match .rest .1)) (c .purge-reply .ensures ∙ ap (purgeReply _) (c .before .may-purge .ensures)), (rw (ne-eqb _ 0 (c .before .before .before .match .rest .0 .0 .0 .0 .1), ne-eqb _ 1 (c .before .before .before .match .rest .0 .0 .0 .1), ne-eqb _ 2 (c .before .before .before .match .rest .0 .0 .1), ne-eqb _ 3 (c .before .before .before .match .rest .0 .1), ne-eqb _ 4 (c .before .before .before .match .rest .1)), rw (ne-eqb _ 0 (c .before .before .before .match .rest .0 .0 .0 .0 .1), ne-eqb _ 1 (c .before .before .before .match .rest .0 .0 .0 .1), ne-eqb _ 2 (c .before .before .before .match .rest .0 .0 .1), ne-eqb _ 3 (c .before .before .before .match .rest .0 .1), ne-eqb _ 4 (c .before .before .before .match .rest .1))))
 
 pub make-call-spec : {M : Type 1} → statement M
 make-call-spec =
@@ -100,6 +105,8 @@ make-call-spec =
     ledger-reply-requires-3
     amend-requires
     ledger-reply-requires-4
+    compact-requires
+    ledger-reply-requires-5
     may-purge-requires
     purge-reply-requires
     same-length
@@ -114,4 +121,6 @@ make-call-spec =
     same-length-7
     returns-4
     same-length-8
-    returns-5)
+    returns-5
+    same-length-9
+    returns-6)
