@@ -1,18 +1,17 @@
 -- Two ledgers of one length with the same pile, the second with no more lines used: what keeps them so.
 -- Assumes nothing.
 use mathlib.Core.Path.{_≡_, refl, sym, ap, _∙_}
-use mathlib.Core.Bool.{Bool, true, false, _&&_, _||_}
+use mathlib.Core.Bool.{Bool, false, _&&_, _||_}
 use mathlib.Core.List.{List, [], _∷_, _++_}
 use Prim.Native.Nat.{ℕ, _+_, _*_, _/_, _≤_, _<_}
 use native.Mathlib.Omega.{arith}
 use lib.ListN.{length, drop, length-drop}
-use lib.Dec.{eqb}
 use Rattle.lists.specs.Choose.{if_then_else_}
 use Rattle.refusal.specs.declared.Refusal.the-variants as R
 use Rattle.ledger.specs.declared.Line.{Line}
 use Rattle.ledger.specs.declared.LedgerAnswer.the-variants as L
-use Rattle.ledger.specs.Lines.{lineOf, lineBytes, linesOf, isMalformed}
-use Rattle.ledger.specs.Standing.{withdraws, standing, lastStanding}
+use Rattle.ledger.specs.Lines.{linesOf}
+use Rattle.ledger.specs.Standing.{standing, lastStanding}
 use Rattle.ledger.specs.Ledger.{capacity, ledgerMalformed, withLine}
 use Rattle.ledger.proofs.StandingLaws.{stack, stack-more, length-standing, standing-small}
 use Rattle.ledger.proofs.Scanning.{lines-well, lines-fit, length-lines}

@@ -1,20 +1,20 @@
 -- The pass that gathers the standing lines, from the last line to the first.
 -- Assumes nothing.
-use mathlib.Core.Path.{_≡_, refl, sym, ap, _∙_}
-use mathlib.Core.Bool.{Bool, true, false, not, _&&_, _||_}
+use mathlib.Core.Path.{_≡_, refl, sym, _∙_}
+use mathlib.Core.Bool.{true, false, not, _&&_, _||_}
 use mathlib.Core.List.{List, [], _∷_, _++_, append-assoc}
-use Prim.Native.Nat.{ℕ, zero, suc, pred, _+_, _-_, _*_, _≤_, _<_}
+use Prim.Native.Nat.{ℕ, suc, pred, _+_, _-_, _*_, _≤_, _<_}
 use native.Mathlib.Omega.{arith}
-use lib.ListN.{length, take, drop, length-drop}
-use lib.Seq.{take-add, take-take, take-at, drop-at, take-append-le, length-take-le}
-use lib.Dec.{eqb, ltb}
+use lib.ListN.{length, take, drop}
+use lib.Seq.{take-add, take-take, drop-at, take-append-le, length-take-le}
+use lib.Dec.{ltb}
 use borrow.Author.Tests.{lt-ltb, le-ltb, lt-leb}
 use Rattle.lists.specs.Choose.{if_then_else_}
 use Rattle.lists.specs.Bytes.{big}
 use Rattle.ledger.specs.declared.Line.{Line}
 use Rattle.ledger.specs.declared.LineAnswer.the-variants.{WellFormed, Malformed}
 use Rattle.ledger.specs.Lines.{lineBytes, linesBytes, lineOf, fieldsOf, linesOf, bytesAt, someMalformed}
-use Rattle.ledger.specs.Standing.{withdraws, cancelled, standing}
+use Rattle.ledger.specs.Standing.{withdraws, standing}
 use Rattle.ledger.specs.Ledger.{capacity, withLine, appendBytes}
 use Rattle.ledger.proofs.StandingLaws.{depth, cancelled-is, depth-small}
 use Rattle.ledger.proofs.Scanning.{lines-from, malformed-from, malformed-later, line-fields, length-lines}

@@ -7,7 +7,6 @@ use Prim.Native.Nat.{ℕ, _+_, _-_, _*_}
 use native.Mathlib.Omega.{arith}
 use lib.ListN.{length, drop, length-append, length-replicate}
 use lib.Seq.{drop-at}
-use Rattle.lists.specs.Bytes.{zeros}
 use Rattle.ledger.specs.declared.Line.{Line}
 use Rattle.ledger.specs.Lines.{linesOf, linesBytes}
 use Rattle.ledger.specs.Standing.{withdraws, cancelled, standing, overdrawn}

@@ -1,8 +1,8 @@
 -- Compaction as the function makes it: the standing lines gathered, moved to the front, and zeros behind them.
 -- Assumes nothing.
 use mathlib.Core.Path.{_≡_, refl, sym, ap, _∙_}
-use mathlib.Core.Bool.{Bool, true, false, _||_}
-use mathlib.Core.List.{List, [], _∷_, _++_, append-assoc}
+use mathlib.Core.Bool.{true, false, _||_}
+use mathlib.Core.List.{List, _∷_, _++_, append-assoc}
 use Prim.Native.Nat.{ℕ, _+_, _-_, _*_, _≤_, _<_}
 use native.Mathlib.Omega.{arith}
 use lib.ListN.{length, take, drop}
@@ -14,7 +14,7 @@ use Rattle.ledger.specs.declared.Line.{Line}
 use Rattle.ledger.specs.declared.LedgerAnswer.the-variants as L
 use Rattle.ledger.specs.Lines.{linesOf, linesBytes}
 use Rattle.ledger.specs.Standing.{standing}
-use Rattle.ledger.specs.Ledger.{capacity, ledgerMalformed}
+use Rattle.ledger.specs.Ledger.{ledgerMalformed}
 use Rattle.ledger.proofs.Scanning.{lines-fit, length-lines}
 use Rattle.ledger.proofs.Written.{length-lines-bytes}
 use Rattle.splice.specs.Moves.{withoutFront}

@@ -1,5 +1,5 @@
--- Request A8: after a compaction every purge question, and every run of further calls that meets no refusal 21 without it, is answered as without it and
--- leaves the same held buffer. Of every held buffer and every ledger, whether or not they come from an opening.
+-- Request A8: what follows a compaction goes as if there had been none, for purge questions and for runs that have room without it, on every held buffer and
+-- every ledger, whether or not they come from an opening.
 -- Assumes nothing.
 use mathlib.Core.Path.{_≡_, refl, sym, ap, _∙_}
 use mathlib.Core.Bool.{Bool, true, false, not}
@@ -31,7 +31,7 @@ use Rattle.archive.specs.Calls.{correctionLine, withdrawalLine, withLines, held
 use Rattle.compaction.specs.Compact.{compacted, compactAnswer, compactBytes}
 use Rattle.compaction.proofs.Alike.{Alike, alike-last, alike-more, alike-compacted, alike-first, alike-itself, compact-answer, compact-bytes, compacted-twice}
 use Rattle.model.specs.Model as M
-use Rattle.model.specs.Model.{Call, correct, keep, withdraw, amend, compact, mayPurge, Answer, accepted, Step, run}
+use Rattle.model.specs.Model.{Call, correct, keep, withdraw, amend, compact, mayPurge, Step, run}
 use Rattle.model.specs.Run.{State, stateOf, purged, after, afterOutcome, step}
 use Rattle.model.specs.Theorems.{answersOf, NeverFull, CompactionUnseen, PurgeUnseen, CompactedTwice}
 use Rattle.model.proofs.Agree.{keep-answer, keep-bytes, after-keep, purge-answer, correct-outcome, withdraw-outcome, amend-outcome}
