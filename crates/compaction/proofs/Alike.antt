@@ -1,4 +1,4 @@
--- Two ledgers of one length with the same pile, the second with no more lines used: what keeps them so.
+-- Two ledgers of one length with the same stack, the second with no more lines used: what keeps them so.
 -- Assumes nothing.
 use mathlib.Core.Path.{_≡_, refl, sym, ap, _∙_}
 use mathlib.Core.Bool.{Bool, false, _&&_, _||_}

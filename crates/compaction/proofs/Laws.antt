@@ -1,4 +1,4 @@
--- The standing lines alone: they all stand, none is a withdrawal, the pile is the same, and the ledger stays well formed.
+-- The standing lines alone: they all stand, none is a withdrawal, the stack is the same, and the ledger stays well formed.
 -- Assumes nothing.
 use mathlib.Core.Path.{_≡_, refl, sym, ap, _∙_}
 use mathlib.Core.Bool.{Bool, true, false, not, _&&_}
@@ -54,7 +54,7 @@ all-stand (l ∷ ls) h = rw (h .0, cancelled-is ls, depth-stays ls (h .1), all-s
 pub standing-again : (ls : List Line) → standing (standing ls) ≡ standing ls
 standing-again ls = all-stand (standing ls) (standing-stays ls)
 
--- the pile is the same
+-- the stack is the same
 pub stack-again : (ls : List Line) → stack [] (standing ls) ≡ stack [] ls
 stack-again ls =
     let e : reverse (stack [] (standing ls)) ≡ reverse (stack [] ls) = sym (standing-is (standing ls)) ∙ standing-again ls ∙ standing-is ls in

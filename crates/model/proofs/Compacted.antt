@@ -33,22 +33,22 @@ use Rattle.compaction.proofs.Alike.{Alike, alike-last, alike-more, alike-compac
 use Rattle.model.specs.Model as M
 use Rattle.model.specs.Model.{Call, correct, keep, withdraw, amend, compact, mayPurge, Step, run}
 use Rattle.model.specs.Run.{State, stateOf, purged, after, afterOutcome, step}
-use Rattle.model.specs.Theorems.{answersOf, NeverFull, CompactionUnseen, PurgeUnseen, CompactedTwice}
+use Rattle.model.specs.Theorems.{answersOf, NeverFull, CompactionUnobservable, PurgeUnobservable, CompactedTwice}
 use Rattle.model.proofs.Agree.{keep-answer, keep-bytes, after-keep, purge-answer, correct-outcome, withdraw-outcome, amend-outcome}
 
--- two states with the same held buffer, and ledgers of one pile
-pub record Twins (s r : State) : Type 0 where
+-- two states with the same held buffer, and ledgers with the same stack
+pub record Equivalent (s r : State) : Type 0 where
   pub held : r .held ≡ s .held
   pub alike : Alike (s .ledger) (s .lines) (r .ledger) (r .lines)
 
--- two calls made: the same answer, and twins after them
-pub record Pair (q r : Step State) : Type 0 where
+-- two calls made: the same answer, and equivalent states after them
+pub record SameStep (q r : Step State) : Type 0 where
   pub answer : r .reply .answer ≡ q .reply .answer
-  pub twins : Twins (q .state) (r .state)
+  pub states : Equivalent (q .state) (r .state)
 
 -- a pair where the first is not refused with 21
 abbrev Follows : Step State → Step State → Type 0
-Follows q r = (q .reply .answer ≡ M.refused R.LedgerFull → ⊥) → Pair q r
+Follows q r = (q .reply .answer ≡ M.refused R.LedgerFull → ⊥) → SameStep q r
 
 -- one test after the other
 follows-in : {A B : Type 0} (g : A → Step State) (h : B → Step State) (x₁ x₂ : A) (y₁ y₂ : B) (b c : Bool) → c ≡ b
@@ -91,7 +91,7 @@ alike-lines (l ∷ ls) {t} {u} {n} {k} a free =
 
 module _ (h t u : List ℕ) (n k : ℕ) (a : Alike t n u k) where
   refuses : (r : Refusal) → Follows (after n (L.Refused r) h t) (after k (L.Refused r) h u)
-  refuses r x = record { answer = refl; twins = record { held = refl; alike = a } }
+  refuses r x = record { answer = refl; states = record { held = refl; alike = a } }
 
   -- fewer lines have room where more have
   full : (x y : ℕ) → y ≤ x → leb (length t / 16) x ≡ false → leb (length u / 16) y ≡ false
@@ -109,7 +109,7 @@ module _ (h t u : List ℕ) (n k : ℕ) (a : Alike t n u k) where
   room x e = let f : x < length t / 16 = leb-false (length t / 16) x e in omega arith
 
   appends : (ls : List Line) (f : List ℕ) → n + length ls ≤ length t / 16 → Follows (after n (L.Accepted (n + length ls)) f (withLines t n ls)) (after k (L.Accepted (k + length ls)) f (withLines u k ls))
-  appends ls f free x = record { answer = refl; twins = record { held = refl; alike = alike-lines ls a free } }
+  appends ls f free x = record { answer = refl; states = record { held = refl; alike = alike-lines ls a free } }
 
   -- the held buffer becomes a frame, and lines are appended
   held-as : (ls : List Line) (made : Made) → n + length ls ≤ length t / 16 → Follows (afterOutcome n (heldAs h t n ls made)) (afterOutcome k (heldAs h u k ls made))
@@ -171,7 +171,7 @@ module _ (h t u : List ℕ) (n k : ℕ) (a : Alike t n u k) where
 
   purge-follows : (d : Date) → Follows (step (mayPurge d) (stateOf h t n)) (step (mayPurge d) (stateOf h u k))
   unfolding step
-  purge-follows d x = record { answer = ap purged (same-purge a d); twins = record { held = refl; alike = a } }
+  purge-follows d x = record { answer = ap purged (same-purge a d); states = record { held = refl; alike = a } }
 
   line-amended : (c : ℕ) (l : Line) (kind : Kind) → Follows (afterOutcome n (lineAmended h t n c kind l)) (afterOutcome k (lineAmended h u k c kind l))
   line-amended c l Correction =
@@ -205,7 +205,7 @@ module _ (h t u : List ℕ) (n k : ℕ) (a : Alike t n u k) where
           (after n (if_then_else_ b (L.Refused R.LedgerMalformed) (L.Accepted (length (standing (linesOf n t))))) h (if_then_else_ b t (compacted (linesOf n t) (drop (n * 16) t))))
           (after k (if_then_else_ b (L.Refused R.LedgerMalformed) (L.Accepted (length (standing (linesOf k u))))) h (if_then_else_ b u (compacted (linesOf k u) (drop (k * 16) u))))
       go true e = refuses R.LedgerMalformed
-      go false e = λ x. record { answer = refl; twins = record { held = refl; alike = alike-compacted a e } }
+      go false e = λ x. record { answer = refl; states = record { held = refl; alike = alike-compacted a e } }
 
   pub step-follows : (c : Call) → Follows (step c (stateOf h t n)) (step c (stateOf h u k))
   step-follows (correct p c) = correct-follows p c
@@ -215,39 +215,39 @@ module _ (h t u : List ℕ) (n k : ℕ) (a : Alike t n u k) where
   step-follows compact = compact-follows
   step-follows (mayPurge d) = purge-follows d
 
--- every run that meets no 21 from the first: the same answers from the second, and twins again
-runs-follow : (cs : List Call) (s r : State) → Twins s r → NeverFull (run step cs s .replies)
-    → (answersOf (run step cs r .replies) ≡ answersOf (run step cs s .replies)) × Twins (run step cs s .state) (run step cs r .state)
+-- every run that meets no 21 from the first: the same answers from the second, and equivalent states again
+runs-follow : (cs : List Call) (s r : State) → Equivalent s r → NeverFull (run step cs s .replies)
+    → (answersOf (run step cs r .replies) ≡ answersOf (run step cs s .replies)) × Equivalent (run step cs s .state) (run step cs r .state)
 unfolding run
 runs-follow [] s r t n = (refl, t)
 runs-follow (c ∷ cs) s r t n = go (stateOf (s .held) (r .ledger) (r .lines)) (λ k. record { held = t .held k; ledger = r .ledger; lines = r .lines }) (step-follows (s .held) (s .ledger) (r .ledger) (s .lines) (r .lines) (t .alike) c (n .0))
     (runs-follow cs)
   where
-    go : (r₁ : State) → r ≡ r₁ → Pair (step c s) (step c r₁)
-        → ((s r : State) → Twins s r → NeverFull (run step cs s .replies) → (answersOf (run step cs r .replies) ≡ answersOf (run step cs s .replies)) × Twins (run step cs s .state) (run step cs r .state))
-        → (answersOf (run step (c ∷ cs) r .replies) ≡ answersOf (run step (c ∷ cs) s .replies)) × Twins (run step (c ∷ cs) s .state) (run step (c ∷ cs) r .state)
+    go : (r₁ : State) → r ≡ r₁ → SameStep (step c s) (step c r₁)
+        → ((s r : State) → Equivalent s r → NeverFull (run step cs s .replies) → (answersOf (run step cs r .replies) ≡ answersOf (run step cs s .replies)) × Equivalent (run step cs s .state) (run step cs r .state))
+        → (answersOf (run step (c ∷ cs) r .replies) ≡ answersOf (run step (c ∷ cs) s .replies)) × Equivalent (run step (c ∷ cs) s .state) (run step (c ∷ cs) r .state)
     go r₁ e p ih =
-        let next = ih (step c s .state) (step c r₁ .state) (p .twins) (n .1) in
+        let next = ih (step c s .state) (step c r₁ .state) (p .states) (n .1) in
         (rw e (λ k. p .answer k ∷ next .0 k), rw e (next .1))
 
 compact-step : (s : State) → step compact s ≡ after (s .lines) (compactAnswer (s .ledger) (s .lines)) (s .held) (compactBytes (s .ledger) (s .lines))
 unfolding step
 compact-step s = refl
 
-twins-compacted : (s : State) → Twins s (step compact s .state)
-twins-compacted s = rw (compact-step s, compact-answer (s .ledger) (s .lines), compact-bytes (s .ledger) (s .lines)) (go (ledgerMalformed (s .ledger) (s .lines)) refl)
+compacted-equivalent : (s : State) → Equivalent s (step compact s .state)
+compacted-equivalent s = rw (compact-step s, compact-answer (s .ledger) (s .lines), compact-bytes (s .ledger) (s .lines)) (go (ledgerMalformed (s .ledger) (s .lines)) refl)
   where
     go : (b : Bool) → ledgerMalformed (s .ledger) (s .lines) ≡ b
-        → Twins s (after (s .lines) (if_then_else_ b (L.Refused R.LedgerMalformed) (L.Accepted (length (standing (linesOf (s .lines) (s .ledger)))))) (s .held) (if_then_else_ b (s .ledger) (compacted (linesOf (s .lines) (s .ledger)) (drop (s .lines * 16) (s .ledger)))) .state)
+        → Equivalent s (after (s .lines) (if_then_else_ b (L.Refused R.LedgerMalformed) (L.Accepted (length (standing (linesOf (s .lines) (s .ledger)))))) (s .held) (if_then_else_ b (s .ledger) (compacted (linesOf (s .lines) (s .ledger)) (drop (s .lines * 16) (s .ledger)))) .state)
     go true e = record { held = refl; alike = alike-itself (s .ledger) (s .lines) }
     go false e = record { held = refl; alike = alike-first (s .ledger) (s .lines) e }
 
-pub compaction-unseen : CompactionUnseen
-compaction-unseen s cs n = let r = runs-follow cs s (step compact s .state) (twins-compacted s) n in record { answers = r .0; held = r .1 .held }
+pub compaction-unobservable : CompactionUnobservable
+compaction-unobservable s cs n = let r = runs-follow cs s (step compact s .state) (compacted-equivalent s) n in record { answers = r .0; held = r .1 .held }
 
-pub purge-unseen : PurgeUnseen
+pub purge-unobservable : PurgeUnobservable
 unfolding step
-purge-unseen s d = ap purged (same-purge (twins-compacted s .alike) d)
+purge-unobservable s d = ap purged (same-purge (compacted-equivalent s .alike) d)
 
 -- compacted again
 

@@ -54,12 +54,12 @@ pub record SameRun (q r : Ran State) : Type 0 where
 
 -- On real bytes, of every held buffer, ledger and number of lines: further calls that meet no 21 without compaction are answered as without it, and leave the
 -- same frame. They may amend and compact in their turn; since each beginning of such a list is one too, the frames are the same after each call.
-abbrev pub CompactionUnseen : Type 0
-CompactionUnseen = (s : State) (cs : List Call) → NeverFull (run step cs s .replies) → SameRun (run step cs s) (run step cs (step compact s .state))
+abbrev pub CompactionUnobservable : Type 0
+CompactionUnobservable = (s : State) (cs : List Call) → NeverFull (run step cs s .replies) → SameRun (run step cs s) (run step cs (step compact s .state))
 
 -- and every purge question is answered as without it
-abbrev pub PurgeUnseen : Type 0
-PurgeUnseen = (s : State) (day : Date) → step (mayPurge day) (step compact s .state) .reply .answer ≡ step (mayPurge day) s .reply .answer
+abbrev pub PurgeUnobservable : Type 0
+PurgeUnobservable = (s : State) (day : Date) → step (mayPurge day) (step compact s .state) .reply .answer ≡ step (mayPurge day) s .reply .answer
 
 -- a compacted ledger compacted again: the same answer, and nothing changes
 abbrev pub CompactedTwice : Type 0
