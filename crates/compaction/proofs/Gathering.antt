@@ -1,24 +1,29 @@
 -- The pass that gathers the standing lines, from the last line to the first.
 -- Assumes nothing.
-use mathlib.Core.Path.{_≡_, refl, sym, _∙_}
-use mathlib.Core.Bool.{true, false, not, _&&_, _||_}
+use mathlib.Core.Path.{_≡_, refl, sym, ap, _∙_}
+use mathlib.Core.Bool.{Bool, true, false, not, _&&_, _||_}
 use mathlib.Core.List.{List, [], _∷_, _++_, append-assoc}
-use Prim.Native.Nat.{ℕ, suc, pred, _+_, _-_, _*_, _≤_, _<_}
+use Prim.Native.Nat.{ℕ, suc, pred, _+_, _-_, _*_, _/_, _≤_, _<_}
+use native.Mathlib.Nat.{add-zero}
 use native.Mathlib.Omega.{arith}
-use lib.ListN.{length, take, drop}
-use lib.Seq.{take-add, take-take, drop-at, take-append-le, length-take-le}
-use lib.Dec.{ltb}
-use borrow.Author.Tests.{lt-ltb, le-ltb, lt-leb}
+use lib.ListN.{length, take, drop, getD, length-take, length-drop, List·getD-eq-default}
+use lib.Seq.{take-add, take-take, drop-at, take-append-le, length-take-le, getD-take, getD-drop}
+use lib.Dec.{eqb, ltb}
+use borrow.Author.Tests.{lt-ltb, le-ltb, ltb-true, ltb-false, eq-eqb, ne-eqb}
 use Rattle.lists.specs.Choose.{if_then_else_}
 use Rattle.lists.specs.Bytes.{big}
 use Rattle.ledger.specs.declared.Line.{Line}
+use Rattle.ledger.specs.declared.LineAnswer.{LineAnswer}
 use Rattle.ledger.specs.declared.LineAnswer.the-variants.{WellFormed, Malformed}
 use Rattle.ledger.specs.Lines.{lineBytes, linesBytes, lineOf, fieldsOf, linesOf, bytesAt, someMalformed}
 use Rattle.ledger.specs.Standing.{withdraws, standing}
-use Rattle.ledger.specs.Ledger.{capacity, withLine, appendBytes}
+use Rattle.ledger.specs.Ledger.{capacity, withLine}
+use Rattle.ledger.proofs.Packing.{bytes-of-line, kind-byte}
 use Rattle.ledger.proofs.StandingLaws.{depth, cancelled-is, depth-small}
 use Rattle.ledger.proofs.Scanning.{lines-from, malformed-from, malformed-later, line-fields, length-lines}
-use Rattle.ledger.proofs.Appending.{appended-bytes, length-appended}
+use Rattle.ledger.proofs.Appending.{length-appended}
+use Rattle.splice.specs.Moves.{moved, copied}
+use Rattle.splice.proofs.Fits.{copy-fits}
 use Rattle.compaction.specs.Gather.{Gathered}
 
 -- the lines from index i on
@@ -61,6 +66,28 @@ gathering-small {t₀} {t} {n} {skip} {to} {i} g =
 bytes-within : (t : List ℕ) (j : ℕ) → j * 16 ≤ length t → bytesAt t j ≡ drop (j * 16) (take (j * 16 + 16) t)
 bytes-within t j h = sym (rw (take-add (j * 16) 16 t) (drop-at (take (j * 16) t) _ (j * 16) (length-take-le (j * 16) t h)))
 
+-- the 16 bytes of a line
+
+length-at : (t : List ℕ) (j : ℕ) → j * 16 + 16 ≤ length t → length (bytesAt t j) ≡ 16
+length-at t j h = length-take-le 16 (drop (j * 16) t) (rw length-drop (omega arith))
+
+first-at : (t : List ℕ) (j : ℕ) → getD (bytesAt t j) 0 0 ≡ getD t (j * 16) 0
+first-at t j = getD-take 16 (drop (j * 16) t) 0 0 (omega arith) ∙ getD-drop (j * 16) t 0 0 ∙ rw add-zero
+
+part-small : (t : List ℕ) (j : ℕ) → ((k : ℕ) → getD t k 0 < 256) → (i : ℕ) → getD (bytesAt t j) i 0 < 256
+part-small t j small i = go (ltb i 16) refl
+  where
+    go : (b : Bool) → ltb i 16 ≡ b → getD (bytesAt t j) i 0 < 256
+    go true e = rw (getD-take 16 (drop (j * 16) t) i 0 (ltb-true i 16 e), getD-drop (j * 16) t i 0) (small (j * 16 + i))
+    go false e =
+        let h : length (bytesAt t j) ≤ i = omega (arith, length-take 16 (drop (j * 16) t), ltb-false i 16 e) in
+        rw (List·getD-eq-default (bytesAt t j) 0 h) (omega arith)
+
+-- copied to place k, they are the line written there
+copied-line : (t : List ℕ) (j k : ℕ) (l : Line) → lineBytes l ≡ bytesAt t j → moved t (j * 16) (k * 16) 16 ≡ withLine t k l
+unfolding moved withLine
+copied-line t j k l e = rw e
+
 depth-more : (l : Line) (ls : List Line) → depth (l ∷ ls) ≡ if_then_else_ (withdraws l) (suc (depth ls)) (pred (depth ls))
 unfolding depth
 depth-more l ls = refl
@@ -96,34 +123,53 @@ module _ {t₀ t : List ℕ} {n skip to i : ℕ} (g : Gathering t₀ n t skip to
   fewer = sym (take-take (j * 16) (suc j * 16) t (omega arith)) ∙ rw same-before (take-take (j * 16) (suc j * 16) t₀ (omega arith))
 
   -- no line is malformed
-  pub never-malformed : lineOf (bytesAt t j) ≡ Malformed → ⊥
+  never-malformed : lineOf (bytesAt t j) ≡ Malformed → ⊥
   never-malformed m =
       let bad : someMalformed (n - j) (drop (j * 16) t₀) ≡ true = malformed-from t₀ n j inside ∙ rw (← here, m) in
       let all : someMalformed n t₀ ≡ true = malformed-later t₀ n j (omega (arith, inside)) bad in
       let z : _≡_ {A = ℕ} 0 1 = cc (g .well) in omega arith
 
-  module _ (l : Line) (read : lineOf (bytesAt t j) ≡ WellFormed l) where
-    now : linesFrom t₀ n j ≡ l ∷ linesFrom t₀ n i
-    now =
-        let q : l ≡ fieldsOf (big (bytesAt t₀ j)) = line-fields (bytesAt t₀ j) l (rw here at read) in
-        lines-from t₀ n j inside ∙ rw (← q, ← e)
+  -- the line there
+  abbrev l : Line
+  l = fieldsOf (big (bytesAt t j))
+
+  read : lineOf (bytesAt t j) ≡ WellFormed l
+  read = go (lineOf (bytesAt t j)) refl
+    where
+      go : (a : LineAnswer) → lineOf (bytesAt t j) ≡ a → lineOf (bytesAt t j) ≡ WellFormed l
+      go (WellFormed x) e = e ∙ ap WellFormed (line-fields (bytesAt t j) x e)
+      go Malformed e = absurd (never-malformed e)
+
+  now : linesFrom t₀ n j ≡ l ∷ linesFrom t₀ n i
+  now = lines-from t₀ n j inside ∙ rw (← here, ← e)
+
+  module _ (small : (k : ℕ) → getD t k 0 < 256) where
+    there : j * 16 + 16 ≤ length t
+    there = rw (g .size) (omega (arith, g .fits, inside))
+
+    -- its kind by the first byte
+    kind-is : withdraws l ≡ eqb (getD t (j * 16) 0 / 64) 2
+    kind-is = kind-byte (bytesAt t j) l (length-at t j there) (part-small t j small) read ∙ rw (first-at t j)
 
     -- a withdrawal
-    pub gathering-back : withdraws l ≡ true → Gathering t₀ n t (skip + 1) to j
-    gathering-back w = record {
-      fits = g .fits;
-      well = g .well;
-      upto = omega (arith, g .upto);
-      size = g .size;
-      deep = rw (now, depth-more l (linesFrom t₀ n i), w) (omega (arith, g .deep));
-      count = rw (now, standing-more l (linesFrom t₀ n i), w) (g .count);
-      before = fewer;
-      lines = rw (now, standing-more l (linesFrom t₀ n i), w) (g .lines);
-    }
+    pub gathering-back : getD t (j * 16) 0 / 64 ≡ 2 → Gathering t₀ n t (skip + 1) to j
+    gathering-back two =
+        let w : withdraws l ≡ true = kind-is ∙ eq-eqb (getD t (j * 16) 0 / 64) 2 two in
+        record {
+          fits = g .fits;
+          well = g .well;
+          upto = omega (arith, g .upto);
+          size = g .size;
+          deep = rw (now, depth-more l (linesFrom t₀ n i), w) (omega (arith, g .deep));
+          count = rw (now, standing-more l (linesFrom t₀ n i), w) (g .count);
+          before = fewer;
+          lines = rw (now, standing-more l (linesFrom t₀ n i), w) (g .lines);
+        }
 
     -- a cancelled line
-    pub gathering-skip : withdraws l ≡ false → 0 < skip → Gathering t₀ n t (skip - 1) to j
-    gathering-skip w h =
+    pub gathering-skip : (getD t (j * 16) 0 / 64 ≡ 2 → ⊥) → 0 < skip → Gathering t₀ n t (skip - 1) to j
+    gathering-skip other h =
+        let w : withdraws l ≡ false = kind-is ∙ ne-eqb (getD t (j * 16) 0 / 64) 2 other in
         let deep : 0 < depth (linesFrom t₀ n i) = omega (arith, g .deep) in
         let c : ltb 0 (depth (linesFrom t₀ n i)) ≡ true = lt-ltb 0 (depth (linesFrom t₀ n i)) deep in
         record {
@@ -138,16 +184,18 @@ module _ {t₀ t : List ℕ} {n skip to i : ℕ} (g : Gathering t₀ n t skip to
         }
 
     -- a line that stands
-    pub gathering-stay : withdraws l ≡ false → skip ≤ 0 → Gathering t₀ n (appendBytes t (to - 1) l) skip (to - 1) j
-    gathering-stay w h =
+    pub gathering-stay : (getD t (j * 16) 0 / 64 ≡ 2 → ⊥) → skip ≤ 0 → Gathering t₀ n (copied t (j * 16) ((to - 1) * 16) 16) skip (to - 1) j
+    gathering-stay other h =
+        let w : withdraws l ≡ false = kind-is ∙ ne-eqb (getD t (j * 16) 0 / 64) 2 other in
         let deep : depth (linesFrom t₀ n i) ≤ 0 = omega (arith, g .deep) in
         let c : ltb 0 (depth (linesFrom t₀ n i)) ≡ false = le-ltb 0 (depth (linesFrom t₀ n i)) deep in
         let k : ℕ = to - 1 in
         let next : k * 16 + 16 ≡ to * 16 = omega (arith, g .upto) in
         let room : k < capacity t = rw (g .size) (omega (arith, g .upto, g .count, g .fits)) in
         let long : k * 16 ≤ length t = omega arith in
+        let same : lineBytes l ≡ bytesAt t j = bytes-of-line (bytesAt t j) l (length-at t j there) (part-small t j small) read in
         let st : standing (linesFrom t₀ n j) ≡ l ∷ standing (linesFrom t₀ n i) = rw (now, standing-more l (linesFrom t₀ n i), w, c) in
-        rw (appended-bytes t k l (lt-leb (capacity t) k room))
+        rw (copy-fits t (j * 16) (k * 16) 16 (rw (g .size) (omega (arith, g .fits, inside))) (omega arith), copied-line t j k l same)
         (record {
           fits = g .fits;
           well = g .well;

@@ -2,7 +2,7 @@
 -- Assumes nothing.
 use mathlib.Core.Path.{_≡_, refl, sym, ap, _∙_}
 use mathlib.Core.Bool.{Bool, true, false, _&&_}
-use mathlib.Core.List.{List}
+use mathlib.Core.List.{List, [], _∷_}
 use Prim.Native.Nat.{ℕ, zero, suc, _+_, _*_, _/_, _%_, _^_, _<_}
 use native.Mathlib.Nat.{div-div-eq-div-mul, div-add-mod', suc-mul, mul-le-mul-right, mod-mod}
 use native.Mathlib.Omega.{arith}
@@ -10,13 +10,14 @@ use lib.ListN.{length, getD}
 use lib.Dec.{eqb, ltb}
 use borrow.Author.Tests.{eq-eqb, lt-ltb, ltb-true, eqb-true}
 use Rattle.lists.specs.Choose.{if_then_else_}
-use Rattle.lists.specs.Bytes.{big, bigBytes}
-use Rattle.lists.proofs.BigEndian.{big-bytes, bytes-big, length-bigBytes}
+use Rattle.lists.specs.Bytes.{bigFrom, big, bigBytes}
+use Rattle.lists.proofs.BigEndian.{big-from, big-bytes, big-below, bytes-big, length-bigBytes}
 use Rattle.ledger.specs.declared.Kind.{Kind}
 use Rattle.ledger.specs.declared.Kind.the-variants.{Correction, Keep, Withdrawal}
 use Rattle.ledger.specs.declared.Line.{Line}
 use Rattle.ledger.specs.declared.LineAnswer.the-variants.{WellFormed, Malformed}
 use Rattle.ledger.specs.Lines.{kindNumber, kindFrom, rightFor, fieldsOf, lineFrom, lineOf, lineNumber, lineBytes}
+use Rattle.ledger.specs.Standing.{isWithdrawal, withdraws}
 use Rattle.ledger.proofs.LineLaws.{highWord, lowWord, line-words, low-fits, wordsLine, fields-words, old-fits, kind-bits, spare, kind-small, line-right}
 
 -- each field of a line is within its bits
@@ -175,3 +176,26 @@ bytes-of-line t l h b e =
     ∙ ap (bigBytes 16) (number-fields (big t) (r .kind) (r .spare))
     ∙ ap (λ (n : ℕ). bigBytes n (big t)) (sym h)
     ∙ bytes-big t b
+
+-- a withdrawal is known by the first byte
+
+kind-two : (k : ℕ) → k < 3 → isWithdrawal (kindFrom k) ≡ eqb k 2
+unfolding kindFrom
+kind-two zero h = refl
+kind-two (suc zero) h = refl
+kind-two (suc (suc zero)) h = refl
+kind-two (suc (suc (suc k))) h = absurd (omega arith)
+
+first-byte : (b : ℕ) (r : List ℕ) → length r ≡ 15 → ((i : ℕ) → getD r i 0 < 256) → big (b ∷ r) / 2 ^ 126 ≡ b / 64
+unfolding bigFrom
+first-byte b r h small =
+    let k : big r < 256 ^ 15 = rw h at (big-below r small) in
+    let e : big (b ∷ r) ≡ b * 256 ^ 15 + big r = big-from (0 * 256 + b) r ∙ rw h (omega arith) in
+    rw e (omega arith)
+
+pub kind-byte : (t : List ℕ) (l : Line) → length t ≡ 16 → ((i : ℕ) → getD t i 0 < 256) → lineOf t ≡ WellFormed l → withdraws l ≡ eqb (getD t 0 0 / 64) 2
+unfolding lineOf fieldsOf
+kind-byte [] l h small e = absurd (omega arith)
+kind-byte (b ∷ r) l h small e =
+    let q = line-read (big (b ∷ r)) l (rw (eq-eqb (length (b ∷ r)) 16 h) at e) in
+    rw (q .is) (kind-two (big (b ∷ r) / 2 ^ 126) (q .kind) ∙ rw (first-byte b r (omega arith) (λ i. small (suc i))))

@@ -4,11 +4,13 @@ use mathlib.Core.Path.{_≡_, refl, sym, subst}
 use mathlib.Core.Bool.{Bool, true, false, _&&_}
 use Prim.Native.Nat.{ℕ, _+_, _-_, _*_, _/_, _%_, _≤_, _<_}
 use native.Mathlib.Omega.{arith}
+use mathlib.Core.List.{List}
+use lib.ListN.{length}
 use lib.Dec.{leb}
 use borrow.Author.Tests.{le-leb, leb-true}
 use Rattle.lists.specs.Bytes.{paddedTo}
 use Rattle.lists.proofs.Tests.{and-true-left, and-true-right}
-use Rattle.splice.specs.Moves.{fill, editFits, putFits}
+use Rattle.splice.specs.Moves.{moved, copied, fill, editFits, putFits}
 
 pub pad-bounds : (n : ℕ) → (n ≤ paddedTo 16 n) × (paddedTo 16 n < n + 16)
 unfolding paddedTo
@@ -97,3 +99,15 @@ module _ (room at w : ℕ) where
   pub put-unfit : ((w ≤ 4) × (at + w ≤ room) → ⊥) → putFits room at w ≡ false
   unfolding putFits
   put-unfit h = not-true _ (λ t. h (leb-true _ _ (and-true-left (leb w 4) (leb (at + w) room) t), leb-true _ _ (and-true-right (leb w 4) (leb (at + w) room) t)))
+
+module _ (b : List ℕ) (from to n : ℕ) where
+  pub copy-fits : from + n ≤ length b → to + n ≤ length b → copied b from to n ≡ moved b from to n
+  unfolding copied
+  copy-fits f t = rw (le-leb _ _ f, le-leb _ _ t)
+
+  pub copy-unfit : ((from + n ≤ length b) × (to + n ≤ length b) → ⊥) → copied b from to n ≡ b
+  unfolding copied
+  copy-unfit h =
+      let e : (leb (from + n) (length b) && leb (to + n) (length b)) ≡ false =
+      not-true _ (λ t. h (leb-true _ _ (and-true-left (leb (from + n) (length b)) (leb (to + n) (length b)) t), leb-true _ _ (and-true-right (leb (from + n) (length b)) (leb (to + n) (length b)) t))) in
+      rw e

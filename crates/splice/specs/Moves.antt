@@ -11,6 +11,11 @@ use Rattle.lists.specs.Bytes.{zeros, paddedTo, over}
 unfoldable pub moved : List ℕ → ℕ → ℕ → ℕ → List ℕ
 moved b from to n = take to b ++ (take n (drop from b) ++ drop (to + n) b)
 
+-- the same where both places lie in b; else b
+unfoldable pub copied : List ℕ → ℕ → ℕ → ℕ → List ℕ
+unfolding moved
+copied b from to n = if leb (from + n) (length b) && leb (to + n) (length b) then moved b from to n else b
+
 -- b with the n bytes at `at` moved up by k, and the k bytes before them 0
 unfoldable pub opened : List ℕ → ℕ → ℕ → ℕ → List ℕ
 opened b at n k = over at (zeros k) (moved b at (at + k) n)

@@ -4,7 +4,7 @@ ghost use Prim.Native.Nat.{_+_, _-_, _%_, _≤_, _<_};
 ghost use lib.ListN.{length};
 ghost use Rattle.lists.specs.Choose.{if_then_else_};
 ghost use Rattle.lists.specs.Bytes.{littleBytes, zeros, paddedTo, over};
-ghost use Rattle.splice.specs.Moves.{moved, opened, closed, withoutFront, grown, shrunk, resized, tableEdited, editFits, putFits};
+ghost use Rattle.splice.specs.Moves.{moved, copied, opened, closed, withoutFront, grown, shrunk, resized, tableEdited, editFits, putFits};
 
 // Copies the n bytes at `from` to `to`, which is not before it: from the right end.
 fn move_up(a: &mut [u8], from: usize, to: usize, n: usize)
@@ -210,6 +210,27 @@ pub fn put(a: &mut [u8], at: usize, v: u32, w: usize) -> bool
     }
     put_le(a, at, v, w);
     true
+}
+
+// Copies the n bytes at `from` to `to`, in either direction. Where they do not lie in the buffer, before or after, every byte stays.
+pub fn copy_within(a: &mut [u8], from: usize, to: usize, n: usize)
+    ensures { λ _. ⌜ now (a .exit) ≡ copied (now (a .entry)) from to n ⌝ }
+{
+    if a.len() < n {
+        return;
+    }
+    let last = a.len() - n;
+    if last < from {
+        return;
+    }
+    if last < to {
+        return;
+    }
+    if from <= to {
+        move_up(a, from, to, n);
+    } else {
+        move_down(a, from, to, n);
+    }
 }
 
 // Takes the first k bytes out: the others move to the front, and k zeros follow them. Where there are fewer every byte stays.
