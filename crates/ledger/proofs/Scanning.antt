@@ -1,7 +1,7 @@
 -- The survey of a ledger from its last line to its first.
 -- Assumes nothing.
 use mathlib.Core.Path.{_≡_, refl, sym, ap, _∙_}
-use mathlib.Core.Bool.{Bool, true, false, _||_, or-true, or-assoc}
+use mathlib.Core.Bool.{Bool, true, false, _&&_, _||_, or-true, or-assoc}
 use mathlib.Core.List.{List, [], _∷_}
 use Prim.Native.Nat.{ℕ, zero, suc, _+_, _-_, _*_, _≤_, _<_}
 use native.Mathlib.Nat.{suc-add, zero-add}
@@ -10,36 +10,55 @@ use native.Mathlib.Omega.{arith}
 use lib.ListN.{length, take, drop}
 use lib.Seq.{drop-drop}
 use lib.Dec.{eqb, ltb}
-use borrow.Author.Tests.{lt-ltb, le-ltb, ltb-false}
+use borrow.Author.Tests.{lt-ltb, le-ltb, ltb-false, ne-eqb}
 use Rattle.lists.specs.Choose.{if_then_else_}
 use Rattle.lists.specs.Bytes.{big}
 use Rattle.ledger.specs.declared.Line.{Line}
+use Rattle.ledger.specs.declared.LineAnswer.{LineAnswer}
 use Rattle.ledger.specs.declared.LineAnswer.the-variants.{WellFormed, Malformed}
-use Rattle.ledger.specs.declared.Found.the-variants.{Nothing}
+use Rattle.ledger.specs.declared.Found.{Found}
+use Rattle.ledger.specs.declared.Found.the-variants.{At, Nothing}
 use Rattle.ledger.specs.declared.Scan.{Scan}
 use Rattle.ledger.specs.declared.Summary.{Summary}
 use Rattle.ledger.specs.declared.SurveyAnswer.the-variants as Y
 use Rattle.ledger.specs.Lines.{fieldsOf, lineOf, bytesAt, linesOf, isMalformed, someMalformed}
-use Rattle.ledger.specs.Standing.{withdraws, keeps, anyLine, cancelled, standing, overdrawn, lastStanding}
-use Rattle.ledger.specs.Ledger.{capacity, ledgerMalformed, summaryOf, surveyOf, scanBack}
+use Rattle.ledger.specs.Standing.{withdraws, keeps, anyLine, stands, cancelled, standing, overdrawn, orElse, lastStanding}
+use Rattle.ledger.specs.Ledger.{capacity, ledgerMalformed, summaryOf, surveyOf}
+use Rattle.ledger.specs.Survey.{numberElse, scanBack, foundBy, foundAt}
 use Rattle.ledger.proofs.Packing.{line-read}
 use Rattle.ledger.proofs.StandingLaws.{depth, cancelled-is, overdrawn-all, depth-small, standing-small}
 
+-- the number of a line that was found
+abbrev pub numberOf : Found → ℕ
+numberOf (At index line) = index + 1
+numberOf Nothing = 0
+
+number-else : (f : Found) (i : ℕ) (l : Line) → numberElse (numberOf f) i ≡ numberOf (orElse f (At i l))
+number-else (At j x) i l = rw (ne-eqb (j + 1) 0 (λ z. omega arith))
+number-else Nothing i l = refl
+
 -- what a survey knows of the lines from this index on
 abbrev pub scanOf : ℕ → List Line → Scan
-scanOf i ls = record { skip = depth ls; count = length (standing ls); last = lastStanding anyLine i ls; keep = lastStanding keeps i ls }
+scanOf i ls = record { skip = depth ls; count = length (standing ls); last = numberOf (lastStanding anyLine i ls); keep = numberOf (lastStanding keeps i ls) }
 
-pub scan-none : (i : ℕ) → scanOf i [] ≡ record { skip = 0; count = 0; last = Nothing; keep = Nothing }
+pub scan-none : (i : ℕ) → scanOf i [] ≡ record { skip = 0; count = 0; last = 0; keep = 0 }
 unfolding depth standing lastStanding
 scan-none i = refl
 
-pub scan-more : (i : ℕ) (l : Line) (ls : List Line) → scanBack (scanOf (suc i) ls) i l ≡ scanOf i (l ∷ ls)
+pub scan-more : (i : ℕ) (l : Line) (ls : List Line) → scanBack (scanOf (suc i) ls) i (l .kind) ≡ scanOf i (l ∷ ls)
 unfolding scanBack depth standing lastStanding
 scan-more i l ls = go (withdraws l) refl (depth ls) refl (keeps l) refl
   where
-    go : (t : Bool) → withdraws l ≡ t → (d : ℕ) → depth ls ≡ d → (k : Bool) → keeps l ≡ k → scanBack (scanOf (suc i) ls) i l ≡ scanOf i (l ∷ ls)
+    last : numberElse (numberOf (lastStanding anyLine (suc i) ls)) i ≡ numberOf (orElse (lastStanding anyLine (suc i) ls) (At i l))
+    last = number-else (lastStanding anyLine (suc i) ls) i l
+
+    keep : numberElse (numberOf (lastStanding keeps (suc i) ls)) i ≡ numberOf (orElse (lastStanding keeps (suc i) ls) (At i l))
+    keep = number-else (lastStanding keeps (suc i) ls) i l
+
+    go : (t : Bool) → withdraws l ≡ t → (d : ℕ) → depth ls ≡ d → (k : Bool) → keeps l ≡ k → scanBack (scanOf (suc i) ls) i (l .kind) ≡ scanOf i (l ∷ ls)
     go true e d f k g = rw (e, add-one)
-    go false e zero f k g = rw (e, cancelled-is ls, f, g, add-one)
+    go false e zero f true g = rw (e, cancelled-is ls, f, g, add-one, last, keep)
+    go false e zero f false g = rw (e, cancelled-is ls, f, g, add-one, last)
     go false e (suc d) f k g =
         let p : suc d - 1 ≡ d = omega arith in
         rw (e, cancelled-is ls, f, lt-ltb 0 (suc d) (omega arith), p)
@@ -88,6 +107,48 @@ line-fields t l e = go (eqb (length t) 16) refl
     go true q = line-read (big t) l (rw q at e) .is
     go false q = let z : _≡_ {A = ℕ} 0 1 = let w : Malformed ≡ WellFormed l = rw q at e in cc in absurd (omega arith)
 
+pub or-none : (a b : Bool) → (a || b) ≡ false → (a ≡ false) × (b ≡ false)
+or-none true b e = let z : _≡_ {A = ℕ} 0 1 = cc in absurd (omega arith)
+or-none false b e = (refl, e)
+
+-- a line that was found is found again by its number
+
+pub found-none : (t : List ℕ) (number : ℕ) → number ≡ 0 → Nothing ≡ foundAt t number
+unfolding foundAt
+found-none t number e = rw e
+
+pub found-some : (t : List ℕ) (number : ℕ) → (number ≡ 0 → ⊥) → (a : LineAnswer) → lineOf (bytesAt t (number - 1)) ≡ a → foundBy (number - 1) a ≡ foundAt t number
+unfolding foundAt
+found-some t zero n a e = absurd (n refl)
+found-some t (suc i) n a e = let p : suc i - 1 ≡ i = omega arith in rw (← e, p)
+
+found-else : (f : Found) (b : Bool) (t : List ℕ) (i : ℕ) (l : Line) → foundAt t (numberOf f) ≡ f → foundAt t (suc i) ≡ At i l
+    → foundAt t (numberOf (if_then_else_ b (orElse f (At i l)) f)) ≡ if_then_else_ b (orElse f (At i l)) f
+found-else f false t i l e g = e
+found-else (At j x) true t i l e g = e
+found-else Nothing true t i l e g = rw (add-one i) g
+
+line-there : (t : List ℕ) → isMalformed (lineOf t) ≡ false → lineOf t ≡ WellFormed (fieldsOf (big t))
+line-there t h = go (lineOf t) refl h
+  where
+    go : (a : LineAnswer) → lineOf t ≡ a → isMalformed a ≡ false → lineOf t ≡ WellFormed (fieldsOf (big t))
+    go (WellFormed l) e m = e ∙ ap WellFormed (line-fields t l e)
+    go Malformed e m = let z : _≡_ {A = ℕ} 0 1 = cc in absurd (omega arith)
+
+found-from : (test : Line → Bool) (t : List ℕ) (m i : ℕ) → someMalformed m (drop (i * 16) t) ≡ false
+    → foundAt t (numberOf (lastStanding test i (linesOf m (drop (i * 16) t)))) ≡ lastStanding test i (linesOf m (drop (i * 16) t))
+unfolding lastStanding linesOf someMalformed foundAt
+found-from test t zero i h = refl
+found-from test t (suc m) i h =
+    let o = or-none (isMalformed (lineOf (bytesAt t i))) (someMalformed m (drop 16 (drop (i * 16) t))) h in
+    let later = found-from test t m (suc i) (rw (next-place t i) at (o .1)) in
+    let l : Line = fieldsOf (big (bytesAt t i)) in
+    let ls : List Line = linesOf m (drop (suc i * 16) t) in
+    rw (next-place t i) (found-else (lastStanding test (suc i) ls) (stands l ls && test l) t i l later (ap (foundBy i) (line-there (bytesAt t i) (o .0))))
+
+found-again : (test : Line → Bool) (t : List ℕ) (n : ℕ) → someMalformed n t ≡ false → foundAt t (numberOf (lastStanding test 0 (linesOf n t))) ≡ lastStanding test 0 (linesOf n t)
+found-again test t n h = found-from test t n 0 h
+
 -- a survey on its way: lines from i on are passed
 
 pub record Surveying (t : List ℕ) (n i : ℕ) (s : Scan) : Type 0 where
@@ -95,7 +156,7 @@ pub record Surveying (t : List ℕ) (n i : ℕ) (s : Scan) : Type 0 where
   pub scan : s ≡ scanOf i (linesOf (n - i) (drop (i * 16) t))
   pub well : someMalformed (n - i) (drop (i * 16) t) ≡ false
 
-pub surveying-start : (t : List ℕ) (n : ℕ) → Surveying t n n (record { skip = 0; count = 0; last = Nothing; keep = Nothing })
+pub surveying-start : (t : List ℕ) (n : ℕ) → Surveying t n n (record { skip = 0; count = 0; last = 0; keep = 0 })
 unfolding linesOf someMalformed
 surveying-start t n =
     let e : n - n ≡ 0 = omega arith in
@@ -120,14 +181,15 @@ module _ {t : List ℕ} {n i : ℕ} {s : Scan} (f : Surveying t n i s) where
       let m : someMalformed (n - j) (drop (j * 16) t) ≡ true = malformed-from t n j (omega (arith, f .upto)) ∙ rw b in
       rw (malformed-later t n j (omega (arith, f .upto)) m) (or-true (ltb (capacity t) n))
 
-  pub surveying-more : (j : ℕ) (l : Line) (s′ : Scan) → i ≡ suc j → lineOf (bytesAt t j) ≡ WellFormed l → s′ ≡ scanBack s j l → Surveying t n j s′
+  pub surveying-more : (j : ℕ) (l : Line) (s′ : Scan) → i ≡ suc j → lineOf (bytesAt t j) ≡ WellFormed l → s′ ≡ scanBack s j (l .kind) → Surveying t n j s′
   surveying-more j l s′ e b q =
       let h : j < n = omega (arith, f .upto) in
       let k : Surveying t n (suc j) s = rw e at f in
       let g : l ≡ fieldsOf (big (bytesAt t j)) = line-fields (bytesAt t j) l b in
+      let later : List Line = linesOf (n - suc j) (drop (suc j * 16) t) in
       record {
         upto = omega arith;
-        scan = q ∙ ap (λ (x : Scan). scanBack x j l) (k .scan) ∙ ap (scanBack _ j) g ∙ scan-more j _ _ ∙ ap (scanOf j) (sym (lines-from t n j h));
+        scan = q ∙ ap (λ (x : Scan). scanBack x j (l .kind)) (k .scan) ∙ ap (λ (x : Line). scanBack (scanOf (suc j) later) j (x .kind)) g ∙ scan-more j _ _ ∙ ap (scanOf j) (sym (lines-from t n j h));
         well = malformed-from t n j h ∙ rw b (k .well);
       }
 
@@ -147,11 +209,12 @@ module _ {t : List ℕ} {n i : ℕ} {s : Scan} (f : Surveying t n i s) where
   pub surveying-over : i ≡ 0 → n ≤ capacity t → 0 < s .skip → ledgerMalformed t n ≡ true
   surveying-over e h k = verdict true e h (lt-ltb _ _ k)
 
-  pub surveying-done : i ≡ 0 → n ≤ capacity t → s .skip ≤ 0 → Y.Surveyed (record { last = s .last; keep = s .keep; count = s .count }) ≡ surveyOf t n
+  pub surveying-done : i ≡ 0 → n ≤ capacity t → s .skip ≤ 0 → Y.Surveyed (record { last = foundAt t (s .last); keep = foundAt t (s .keep); count = s .count }) ≡ surveyOf t n
   unfolding surveyOf
   surveying-done e h k =
       let w = whole e in
-      rw (verdict false e h (le-ltb 0 (s .skip) k)) (ap (λ (x : Scan). Y.Surveyed (record { last = x .last; keep = x .keep; count = x .count })) (w .0))
+      rw (verdict false e h (le-ltb 0 (s .skip) k))
+      (ap (λ (x : Scan). Y.Surveyed (record { last = foundAt t (x .last); keep = foundAt t (x .keep); count = x .count })) (w .0) ∙ rw (found-again anyLine t n (w .1), found-again keeps t n (w .1)))
 
 -- the answer of a survey that meets refusal 20
 pub survey-refused : (t : List ℕ) (n : ℕ) → ledgerMalformed t n ≡ true → Y.Malformed ≡ surveyOf t n
@@ -187,10 +250,6 @@ survey-sound t n s e = go (ledgerMalformed t n) refl (sym (survey-tests t n) ∙
     go false p q = record { well = p; is = cc }
 
 -- what it means that there is no refusal 20
-
-pub or-none : (a b : Bool) → (a || b) ≡ false → (a ≡ false) × (b ≡ false)
-or-none true b e = let z : _≡_ {A = ℕ} 0 1 = cc in absurd (omega arith)
-or-none false b e = (refl, e)
 
 pub malformed-tests : (t : List ℕ) (n : ℕ) → ledgerMalformed t n ≡ ltb (capacity t) n || (someMalformed n t || overdrawn [] (linesOf n t))
 unfolding ledgerMalformed

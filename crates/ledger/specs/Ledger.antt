@@ -12,7 +12,6 @@ use Rattle.ledger.specs.declared.Kind.the-variants.{Keep}
 use Rattle.ledger.specs.declared.Line.{Line}
 use Rattle.ledger.specs.declared.Found.{Found}
 use Rattle.ledger.specs.declared.Found.the-variants.{At, Nothing}
-use Rattle.ledger.specs.declared.Scan.{Scan}
 use Rattle.ledger.specs.declared.Summary.{Summary}
 use Rattle.ledger.specs.declared.SurveyAnswer.{SurveyAnswer}
 use Rattle.ledger.specs.declared.SurveyAnswer.the-variants as Y
@@ -21,7 +20,7 @@ use Rattle.ledger.specs.declared.LedgerAnswer.the-variants as L
 use Rattle.ledger.specs.declared.PurgeAnswer.{PurgeAnswer}
 use Rattle.ledger.specs.declared.PurgeAnswer.the-variants as P
 use Rattle.ledger.specs.Lines.{linesOf, someMalformed, lineBytes}
-use Rattle.ledger.specs.Standing.{withdraws, keeps, standing, overdrawn, orElse, lastStanding, anyLine}
+use Rattle.ledger.specs.Standing.{keeps, standing, overdrawn, lastStanding, anyLine}
 
 -- the lines that the bytes hold whole
 abbrev pub capacity : List ℕ → ℕ
@@ -90,16 +89,3 @@ purgeAnswer t lines day =
     if ledgerMalformed t lines then P.Refused R.LedgerMalformed else
     if not (isDate day) then P.Refused R.NotADate else
     purgeBy day (lastStanding keeps 0 (linesOf lines t))
-
--- One line further back in a survey that goes from the last line to the first: skip is how many of the lines before are
--- cancelled by those passed, the rest what is known of those passed.
-unfoldable pub scanBack : Scan → ℕ → Line → Scan
-scanBack s index l =
-    if withdraws l then record { skip = s .skip + 1; count = s .count; last = s .last; keep = s .keep } else
-    if ltb 0 (s .skip) then record { skip = s .skip - 1; count = s .count; last = s .last; keep = s .keep } else
-    record {
-      skip = 0;
-      count = s .count + 1;
-      last = orElse (s .last) (At index l);
-      keep = if keeps l then orElse (s .keep) (At index l) else s .keep;
-    }

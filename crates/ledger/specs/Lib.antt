@@ -1,3 +1,4 @@
 pub mod Lines
 pub mod Standing
 pub mod Ledger
+pub mod Survey

@@ -5,8 +5,9 @@ ghost use Prim.Native.Nat.{ℕ, _+_, _*_, _/_, _%_, _^_, _<_, _≤_};
 ghost use lib.ListN.{length, take, drop};
 ghost use Rattle.lists.specs.Bytes.{big, bigBytes};
 ghost use Rattle.ledger.specs.Lines.{kindNumber, kindFrom, isNoDate, noCounts, rightFor, fieldsOf, lineFrom, lineOf, lineNumber, bytesAt};
-ghost use Rattle.ledger.specs.Standing.{isWithdrawal, isKeep, orElse};
-ghost use Rattle.ledger.specs.Ledger.{surveyOf, withLine, appendAnswer, appendBytes, keepAnswer, keepBytes, purgeBy, purgeAnswer, scanBack};
+ghost use Rattle.ledger.specs.Standing.{isWithdrawal, isKeep};
+ghost use Rattle.ledger.specs.Ledger.{surveyOf, withLine, appendAnswer, appendBytes, keepAnswer, keepBytes, purgeBy, purgeAnswer};
+ghost use Rattle.ledger.specs.Survey.{numberElse, scanBack, foundAt};
 use calendar::Date;
 use refusal::Refusal;
 
@@ -58,12 +59,12 @@ pub enum PurgeAnswer {
     Refused(Refusal),
 }
 
-// What a survey knows on its way from the last line back to the first.
+// What a survey knows on its way from the last line back to the first. Lines are noted by their number from 1, with 0 for none.
 struct Scan {
     pub skip: usize,
     pub count: usize,
-    pub last: Found,
-    pub keep: Found,
+    pub last: usize,
+    pub keep: usize,
 }
 
 // The lowest bit of each field: in the high word, then in the low word.
@@ -253,13 +254,14 @@ fn put_line(ledger: &mut [u8], index: usize, line: Line)
     put_word(ledger, next, low_word(line));
 }
 
-fn or_else(found: Found, index: usize, line: Line) -> Found
-    ensures { λ r. ⌜ r ≡ orElse found (Found.At index line) ⌝ }
+fn or_else(number: usize, index: usize) -> usize
+    requires { ⌜ index + 1 < 2 ^ 64 ⌝ }
+    ensures { λ r. ⌜ r ≡ numberElse number index ⌝ }
 {
-    match found {
-        Found::At { index: _, line: _ } => found,
-        Found::Nothing => Found::At { index, line },
+    if number == 0 {
+        return index + 1;
     }
+    number
 }
 
 fn is_keep(kind: Kind) -> bool
@@ -283,44 +285,55 @@ pub fn is_withdrawal(kind: Kind) -> bool
 }
 
 // One line further back.
-fn scan_back(s: Scan, index: usize, line: Line) -> Scan
-    requires { ⌜ (s .skip + 1 < 2 ^ 64) × (s .count + 1 < 2 ^ 64) ⌝ }
-    ensures { λ r. ⌜ r ≡ scanBack s index line ⌝ }
+fn scan_back(s: Scan, index: usize, kind: Kind) -> Scan
+    requires { ⌜ (s .skip + 1 < 2 ^ 64) × (s .count + 1 < 2 ^ 64) × (index + 1 < 2 ^ 64) ⌝ }
+    ensures { λ r. ⌜ r ≡ scanBack s index kind ⌝ }
 {
-    let last = s.last;
-    let keep = s.keep;
-    let kind = line.kind;
     if is_withdrawal(kind) {
         return Scan {
             skip: s.skip + 1,
             count: s.count,
-            last,
-            keep,
+            last: s.last,
+            keep: s.keep,
         };
     }
     if 0 < s.skip {
         return Scan {
             skip: s.skip - 1,
             count: s.count,
-            last,
-            keep,
+            last: s.last,
+            keep: s.keep,
         };
     }
-    let top = or_else(last, index, line);
+    let last = or_else(s.last, index);
     if is_keep(kind) {
         return Scan {
             skip: 0,
             count: s.count + 1,
-            last: top,
-            keep: or_else(keep, index, line),
+            last,
+            keep: or_else(s.keep, index),
         };
     }
     Scan {
         skip: 0,
         count: s.count + 1,
-        last: top,
-        keep,
+        last,
+        keep: s.keep,
     }
+}
+
+// The line with this number.
+fn found_at(ledger: &[u8], number: usize) -> Found
+    ensures { λ r. ⌜ r ≡ foundAt (now (ledger .entry)) number ⌝ }
+{
+    if number == 0 {
+        return Found::Nothing;
+    }
+    let index = number - 1;
+    let LineAnswer::WellFormed(line) = line_at(ledger, index) else {
+        return Found::Nothing;
+    };
+    Found::At { index, line }
 }
 
 // What stands of the first `lines` lines, in one pass from the last to the first.
@@ -333,8 +346,8 @@ pub fn survey(ledger: &[u8], lines: u64) -> SurveyAnswer
     let mut s = Scan {
         skip: 0,
         count: 0,
-        last: Found::Nothing,
-        keep: Found::Nothing,
+        last: 0,
+        keep: 0,
     };
     let mut i = lines as usize;
     while 0 < i {
@@ -342,16 +355,15 @@ pub fn survey(ledger: &[u8], lines: u64) -> SurveyAnswer
         let LineAnswer::WellFormed(line) = line_at(ledger, i) else {
             return SurveyAnswer::Malformed;
         };
-        s = scan_back(s, i, line);
+        let kind = line.kind;
+        s = scan_back(s, i, kind);
     }
     if 0 < s.skip {
         return SurveyAnswer::Malformed;
     }
-    let last = s.last;
-    let keep = s.keep;
     SurveyAnswer::Surveyed(Summary {
-        last,
-        keep,
+        last: found_at(ledger, s.last),
+        keep: found_at(ledger, s.keep),
         count: s.count,
     })
 }

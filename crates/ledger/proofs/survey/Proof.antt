@@ -39,7 +39,7 @@ returns-2 c =
 scan-back-requires : tie.Need-scan-back-requires Inv-loop μ-loop
 scan-back-requires c κs =
     let f = c .before .before .before .before .before .loop .inv in
-    (omega (arith, skip-small f), omega (arith, count-small f))
+    (omega (arith, skip-small f), omega (arith, count-small f), omega (arith, f .upto))
 
 loop-less : tie.Need-loop-less Inv-loop μ-loop
 loop-less c = omega arith
@@ -54,10 +54,16 @@ returns-3 c =
     let f = c .before .before .before .loop .inv in
     survey-refused _ _ (surveying-over f (omega arith) (omega arith) (c .if2 .taken))
 
+found-at-requires : tie.Need-found-at-requires Inv-loop μ-loop
+found-at-requires c κs = search needs
+
+found-at-requires-2 : tie.Need-found-at-requires-2 Inv-loop μ-loop
+found-at-requires-2 c κs = search needs
+
 returns-4 : tie.Need-returns-4 Inv-loop μ-loop
 returns-4 c =
-    let f = c .before .before .before .loop .inv in
-    surveying-done f (omega arith) (omega arith) (c .if2 .left)
+    let f = c .before .before .before .before .before .loop .inv in
+    rw (c .before .found-at .ensures, c .found-at2 .ensures) (surveying-done f (omega arith) (omega arith) (c .before .before .if2 .left))
 
 pub survey-spec : {M : Type 1} → statement M
 survey-spec =
@@ -76,4 +82,6 @@ survey-spec =
     loop-less
     loop-again
     returns-3
+    found-at-requires
+    found-at-requires-2
     returns-4)
