@@ -12,6 +12,8 @@ AFTER_PROOFS += amend-trials
 AFTER_PROOFS += cli-test
 AFTER_PROOFS += second-reader-test
 AFTER_PROOFS += model
+AFTER_PROOFS += python-test
+AFTER_PROOFS += examples-test
 
 # The whole gate: every crate proved from nothing, every must-fail edit refused, every program's output compared; then the rest
 # on what was proved. The last line is the prover's verdict.
@@ -118,7 +120,7 @@ faults: deps-rust
 
 # FabIO, dxtbx and CBFlib, Debian's readers and writers of the same formats, beside the library (docs/PEERS.md).
 PYTHON := /usr/bin/python3 -B
-peers: deps-peers deps-dxtbx second-reader peers-formats
+peers: deps-peers deps-dxtbx second-reader peers-formats python-fabio-test
 	$(PYTHON) tests/peers/peers.py $(SEED)
 
 # What the command's expand writes, read back by others.
@@ -131,7 +133,7 @@ compare-frames: deps-peers second-reader
 
 # The command quayrudder (cli), from Debian's crates over the static library.
 CLI := target/cli/release/quayrudder
-DEBIAN := gcc libcbf-dev $(patsubst %,librust-%-dev,base64 chrono clap csv image indicatif rayon rustix serde-json sha2 tempfile tiff users walkdir)
+DEBIAN := gcc libcbf-dev $(patsubst %,librust-%-dev,base64 chrono clap clap-complete csv image indicatif rayon rustix serde-json sha2 tempfile tiff users walkdir)
 
 deps: deps-rust
 	@tools/deps $(DEBIAN)
@@ -167,6 +169,34 @@ cluster-test: cli
 report-test: cli
 	@tools/deps chromium chromium-driver python3-selenium
 	@tests/report/run.sh $(CLI) target/report
+
+.PHONY: examples-test python-test python-fabio-test
+
+# The README's frame, for examples.
+EXAMPLE := target/example/example.sfrm
+$(EXAMPLE): | cli
+	@mkdir -p $(@D)
+	@$(dir $(CLI))examples/example_frame $(@D)
+	@$(CLI) write --header $(@D)/header.bin --pixels $(@D)/counts.raw --form 1+1 -o $@
+
+include install/install.mk
+
+# The examples in C, Python and shell (examples), and what they print.
+examples-test: cli sharedlib $(EXAMPLE)
+	@tools/deps python3-numpy
+	@PATH="$(abspath $(dir $(CLI))):$$PATH" PYTHONPATH=$(abspath python) PYTHON="$(PYTHON)" examples/run.sh target/examples $(EXAMPLE) \
+	    -Iinclude -L$(dir $(SHARED)) -lquayrudder -Wl,-rpath,$(abspath $(dir $(SHARED)))
+
+# The Python module (python): the examples of its docstrings, and its tests.
+python-test: cli sharedlib
+	@tools/deps python3-numpy util-linux
+	@PYTHONPATH=python $(PYTHON) python/tests/run.py
+
+# The same of the FabIO plug-in, and the types by mypy. Part of make peers: it needs large packages.
+python-fabio-test: deps-peers cli sharedlib
+	@tools/deps mypy
+	@PYTHONPATH=python $(PYTHON) python/tests/run.py --fabio
+	cd python && mypy --cache-dir=../target/mypy quayrudder
 
 # The main job on an example frame: README's first command.
 demo: cli
