@@ -4,6 +4,7 @@
 .PHONY: deps cli cli-test demo
 
 # What the gate runs after the proofs, in this order: targets of this file, one more line each.
+AFTER_PROOFS += gate-test
 AFTER_PROOFS += staticlib
 AFTER_PROOFS += compare-short
 AFTER_PROOFS += mar-trials
@@ -18,8 +19,15 @@ AFTER_PROOFS += examples-test
 # The whole gate: every crate proved from nothing, every must-fail edit refused, every program's output compared; then the rest
 # on what was proved. The last line is the prover's verdict.
 test: toolchain
+	@tools/deps python3
 	rt fmt --check
 	@tools/gate $(AFTER_PROOFS)
+
+.PHONY: gate-test
+
+# What the gate prints, for recorded logs of the prover (tests/gate).
+gate-test:
+	@tests/gate/run.sh target/gate-test
 
 # Says so where another toolchain than the pinned one is found. The proofs are checked by what is found.
 toolchain:
@@ -55,7 +63,9 @@ LIBRARY := target/staticlib/libquayrudder.a
 staticlib: $(LIBRARY)
 
 $(LIBRARY): crates.txt $(shell find crates -name '*.rt' -o -name '*.antt')
-	rt staticlib quayrudder
+	@tools/deps python3
+	@mkdir -p target
+	@tools/prover target/staticlib.log quayrudder tools/staticlib
 
 # Against plain C, FabIO and memcpy; the tables are printed.
 bench: deps-bench
