@@ -4,16 +4,17 @@
 #include <stdio.h>
 #include <stdlib.h>
 
+/* The bytes of a file; where it cannot be read to its end, the library refuses what there is. */
 static uint8_t *contents(const char *name, size_t *length) {
     FILE *file = fopen(name, "rb");
-    if (!file || fseek(file, 0, SEEK_END))
-        return NULL;
-    *length = (size_t)ftell(file);
-    rewind(file);
-    uint8_t *bytes = malloc(*length + 1);
-    if (bytes && fread(bytes, 1, *length, file) != *length)
-        bytes = NULL;
-    fclose(file);
+    long end = file && !fseek(file, 0, SEEK_END) ? ftell(file) : -1;
+    uint8_t *bytes = end < 0 ? NULL : malloc((size_t)end + 1);
+    if (bytes) {
+        rewind(file);
+        *length = fread(bytes, 1, (size_t)end, file);
+    }
+    if (file)
+        fclose(file);
     return bytes;
 }
 

@@ -34,6 +34,7 @@ Description: proved software for a cold archive of X-ray frames
  ledger allows it.
 END
 echo 'activate-noawait ldconfig' > DEBIAN/triggers
+echo "libquayrudder 0 quayrudder (>= $version)" > DEBIAN/shlibs
 find usr -type f -exec md5sum {} + | sort -k 2 > DEBIAN/md5sums
 dpkg-deb --root-owner-group --build . "$folder" > /dev/null
 echo "$given/quayrudder_${version}_$architecture.deb"

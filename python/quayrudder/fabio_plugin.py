@@ -21,6 +21,7 @@ import fabio.openimage
 from fabio.fabioimage import FabioImage
 
 from .images import Image, read, read_mar
+from .refusals import Refusal
 
 # FabIO finds a class by these first bytes and a name.
 _MAGIC = [(b"FORMAT :", "quayrudderbruker")]
@@ -43,7 +44,10 @@ class _ProvedImage(FabioImage):  # type: ignore[misc]
 
     def _readheader(self, file: Any) -> Image:
         """FabIO asks by this for the header alone. A header is the file's only where the whole file is accepted."""
-        image = type(self).reader(file.read())
+        try:
+            image = type(self).reader(file.read())
+        except Refusal as refusal:
+            raise refusal.of(str(self.filename)) from None
         self.header = self.check_header({str(key): value for key, value in image.header.items()})
         return image
 

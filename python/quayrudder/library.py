@@ -3,6 +3,7 @@ from __future__ import annotations
 
 import ctypes
 import functools
+import mmap
 import os
 from typing import Any, Union
 
@@ -13,7 +14,7 @@ from . import places
 
 Bytes = NDArray[numpy.uint8]
 Pixels = NDArray[numpy.uint32]
-Source = Union[str, "os.PathLike[str]", bytes, bytearray, memoryview]
+Source = Union[str, "os.PathLike[str]", bytes, bytearray, memoryview, mmap.mmap]
 
 _U32, _U64 = ctypes.c_uint32, ctypes.c_uint64
 
@@ -69,7 +70,11 @@ def call(name: str, *arguments: Union[Bytes, Pixels, int]) -> Any:
 
 def lent(source: Source) -> tuple[Bytes, str | None]:
     """A file read into memory, with its name, or bytes where they lie."""
-    if isinstance(source, (str, os.PathLike)):
-        return numpy.fromfile(source, numpy.uint8), os.fspath(source)
-    size = memoryview(source).nbytes
-    return numpy.frombuffer(source, numpy.uint8) if size else numpy.empty(0, numpy.uint8), None
+    if not isinstance(source, (str, os.PathLike)):
+        return _array(source), None
+    with open(source, "rb") as file:
+        return _array(file.read()), os.fspath(source)
+
+
+def _array(source: Union[bytes, bytearray, memoryview, mmap.mmap]) -> Bytes:
+    return numpy.frombuffer(source, numpy.uint8) if len(source) else numpy.empty(0, numpy.uint8)

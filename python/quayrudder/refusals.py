@@ -61,6 +61,10 @@ class Refusal(Error):
         where = "".join(f" ({name} {number})" for name, number in places.items() if number is not None)
         return f"{of}refusal {self.number}: {self.meaning}{where}"
 
+    def of(self, file: str) -> Refusal:
+        """The same refusal, of this file."""
+        return Refusal(self.number, self.line or self.place or 0, file, self.meaning, self.advice)
+
     def __reduce__(self) -> tuple[Any, ...]:
         return Refusal, (self.number, self.line or self.place or 0, self.file, self.meaning, self.advice)
 

@@ -51,7 +51,14 @@ class FabIO(unittest.TestCase):
         for name, data, number in (("padded.sfrm", frame, 12), ("cut.image", plate()[:-1], 11), ("pair.image", plate(address=3), 13)):
             with open(name, "wb") as file:
                 file.write(data)
-            self.assertEqual(refused(fabio.open, name).number, number)
+            refusal = refused(fabio.open, name)
+            self.assertEqual((refusal.number, refusal.file), (number, name))
+
+    def test_an_image_is_converted_as_any_other(self):
+        fabio.open("example.sfrm").convert("edf").write("example.edf")
+        self.assertTrue((fabio.open("example.edf").data == quayrudder.read("example.sfrm").pixels).all())
+        with self.assertRaises(IndexError):
+            fabio.open("example.sfrm", frame=1)
 
     def test_other_formats_are_fabio_s(self):
         self.assertEqual(type(fabio.open("scan.img")).__name__, "DtrekImage")

@@ -4,6 +4,7 @@ import os
 import pickle
 import subprocess
 import unittest
+from unittest import mock
 
 import quayrudder
 from quayrudder import Holding, places
@@ -79,6 +80,12 @@ class Holdings(unittest.TestCase):
         with open(self.holding.name + ".held", "ab") as held:
             held.write(b"\0")
         self.assertEqual(self.error(self.holding.correct, 1, 1), "damaged")
+
+    def test_the_environment_names_the_command(self):
+        with mock.patch.dict(os.environ, QUAYRUDDER_COMMAND="/bin/false"):
+            self.assertEqual(self.error(self.holding.list), "failed")
+        with mock.patch.dict(os.environ, PATH=""), mock.patch.object(places, "_first", return_value=None):
+            self.assertRaises(FileNotFoundError, self.holding.list)
 
     def test_names_that_look_like_options_and_endings(self):
         holding = Holding.open("example.sfrm", "--json", form="1")

@@ -1,12 +1,15 @@
 """Reading and writing: what the library answers, and arrays that are not copied."""
+import os
+import pathlib
 import pickle
+import threading
 import unittest
 
 import numpy
 from files import plate, scan
 
 import quayrudder
-from quayrudder import library
+from quayrudder import images, library
 
 
 def refused(call, *arguments):
@@ -44,6 +47,13 @@ class Frames(unittest.TestCase):
         self.assertTrue(numpy.shares_memory(data, numpy.frombuffer(self.frame, numpy.uint8)))
         self.assertIsNone(name)
 
+    def test_a_pipe_is_a_path_too(self):
+        os.mkfifo("pipe.sfrm")
+        writer = threading.Thread(target=pathlib.Path("pipe.sfrm").write_bytes, args=[self.frame])
+        writer.start()
+        self.assertTrue((quayrudder.read("pipe.sfrm").pixels == self.counts).all())
+        writer.join()
+
     def test_every_cut_frame_is_refused(self):
         for length, number in ((0, 1), (239, 1), (7679, 1), (7680, 11), (len(self.frame) - 1, 11)):
             self.assertEqual(refused(quayrudder.read, self.frame[:length]).number, number, length)
@@ -55,6 +65,19 @@ class Frames(unittest.TestCase):
         self.assertEqual((refusal.file, refusal.kind, refusal.case), ("cut.sfrm", "refused", "DataTruncated"))
         again = pickle.loads(pickle.dumps(refusal))
         self.assertEqual((str(again), again.number, again.advice), (str(refusal), 11, refusal.advice))
+
+    def test_format_86(self):
+        entry = b"%9d%7d" % (100_000, 2)
+        self.assertEqual(quayrudder.read(self.format_86(entry, b"1")).pixels.tolist(), [[1, 2], [100_000, 3]])
+        twice = refused(quayrudder.read, self.format_86(2 * entry, b"2"))
+        self.assertEqual((twice.number, twice.place, twice.line), (13, 1, None))
+
+    def format_86(self, entries, number):
+        header = bytearray(self.frame[:7680])
+        lines = {0: b"FORMAT :86", 1: b"VERSION:8", 20: b"NOVERFL:" + number, 39: b"NPIXELB:1", 40: b"NROWS  :2", 41: b"NCOLS  :2"}
+        for line, text in lines.items():
+            header[80 * line:80 * line + 80] = text.ljust(80)
+        return bytes(header) + bytes([1, 2, 255, 3]) + entries.ljust(512, b"\0")
 
     def test_a_file_that_is_missing_is_no_refusal(self):
         with self.assertRaises(FileNotFoundError):
@@ -75,6 +98,9 @@ class Written(unittest.TestCase):
         turned = numpy.asfortranarray(self.counts)
         for counts in (self.counts.astype("i8"), self.counts.astype(">u4"), turned, self.counts.ravel(), self.counts.tolist()):
             self.assertEqual(quayrudder.write("example.sfrm", counts, "1+1"), expected)
+
+    def test_an_array_that_can_be_lent_is_not_copied(self):
+        self.assertTrue(numpy.shares_memory(images._counts(self.counts), self.counts))
 
     def test_counts_that_are_none(self):
         for bad in (-1, 2**32):

@@ -7,7 +7,7 @@ rm -rf "$1"
 mkdir -p "$1"
 cd "$1"
 ln -s "$tools" tools
-printf '# crates\nlists:\nrefusal: lists\nlayout: lists\n' > crates.txt
+printf '# crates\nlists:\nrefusal: lists\nlayout: lists os\n' > crates.txt
 printf 'good:\n\t@echo something was tried\nbad:\n\t@false\n' > Makefile
 
 # gate LOG STATUS TARGET: out.txt and err.txt, with the status.
