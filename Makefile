@@ -130,16 +130,17 @@ faults: deps-rust
 
 # FabIO, dxtbx and CBFlib, Debian's readers and writers of the same formats, beside the library (docs/PEERS.md).
 PYTHON := /usr/bin/python3 -B
+PEERS := PYTHONPATH=python $(PYTHON) tests/peers/
 peers: deps-peers deps-dxtbx second-reader peers-formats python-fabio-test
-	$(PYTHON) tests/peers/peers.py $(SEED)
+	$(PEERS)peers.py $(SEED)
 
 # What the command's expand writes, read back by others.
 peers-formats: deps-peers deps-dxtbx cli
-	$(PYTHON) tests/peers/formats.py $(SEED)
+	$(PEERS)formats.py $(SEED)
 
 # Every file in frames/ read by the library, by the second reader and by FabIO.
 compare-frames: deps-peers second-reader
-	$(PYTHON) tests/peers/compare_frames.py frames
+	$(PEERS)compare_frames.py frames
 
 # The command quayrudder (cli), from Debian's crates over the static library.
 CLI := target/cli/release/quayrudder

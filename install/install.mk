@@ -36,7 +36,7 @@ deb: cli sharedlib deps-install
 	@tools/deps dpkg-dev
 	@install/deb.sh target/deb $(VERSION)
 
-# The package built, installed into a clean folder, used from there and removed. Not in the gate: half a minute.
+# The package built, installed into a clean folder, used from there and removed. Not in the gate: it needs more packages.
 deb-test: deb $(EXAMPLE)
 	@tools/deps fish man-db pkg-config python3-numpy zsh
 	@install/test.sh target/deb target/deb-test

@@ -39,6 +39,12 @@ must sh -c "ldd '$folder/examples/read_frame' | grep -q 'libquayrudder.so.0 => $
 cc "$examples/read_frame.c" $(pkg-config --cflags quayrudder) "$library/libquayrudder.a" -o "$folder/static"
 must "$folder/static" "$frame"
 
+# The shared library has the functions that the header declares, and shows no other.
+grep -o 'qr_[a-z_]*(' "$root/usr/include/quayrudder.h" | tr -d '(' | sort -u > "$folder/declared.txt"
+nm -D --defined-only "$library/libquayrudder.so.0" | awk '{print $3}' | sort > "$folder/shown.txt"
+must diff "$folder/declared.txt" "$folder/shown.txt"
+must test "$(wc -l < "$folder/shown.txt")" -ge 16
+
 # A page and a completion for every command.
 for name in $(quayrudder --help | sed -n '/^Commands:/,/^$/s/^  \([a-z-]*\) .*/\1/p' | grep -vx help); do
     must sh -c "MANPATH='$root/usr/share/man' man --warnings quayrudder-$name 2> '$folder/man.txt' | grep -q 'quayrudder $name'"

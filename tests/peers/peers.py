@@ -7,7 +7,9 @@ import sys
 import tempfile
 from itertools import product
 
+import fabio
 import numpy
+from quayrudder import Refusal, fabio_plugin
 
 import bruker
 import dtrek
@@ -15,7 +17,7 @@ import dtrek_departures
 import mar
 import photon
 import rigaku
-from departures import DEPARTURES
+from departures import DEPARTURES, shown
 
 SHAPES = [(1, 1), (1, 7), (3, 5), (64, 65), (512, 512), (2048, 2048)]
 BASELINE = 32
@@ -252,6 +254,36 @@ def dtrek_rigaku_order(report, folder, random):
     report.note("dxtbx reads big_endian pixels of a Pilatus as little_endian", first_difference(rigaku.dxtbx_read(path, rigaku.PILATUS), turned))
 
 
+def plug_in_reads(report, folder, random):
+    """FabIO with the plug-in: frames and plates as the library reads them."""
+    fabio_plugin.register()
+    path = folder / "plugged.sfrm"
+    for width, underflow in product((1, 2, 4), (0, 1, 2)):
+        pixels = counts(random, (64, 65), 2**32 - 1, BASELINE)
+        bruker.fabio_write(path, pixels.clip(1, 9).astype(numpy.int32), 100, BASELINE)
+        bruker.library_write(path, path.read_bytes(), pixels, width, underflow)
+        report.note("FabIO with the plug-in, FORMAT 100", first_difference(fabio.open(str(path)).data, pixels))
+    for side, order in product((1200, 2000), "<>"):
+        file = mar.Mar(side, order, 301)
+        pixels = mar.counts_of(random, file)
+        mar.make(path, random, file, pixels)
+        report.note("FabIO with the plug-in, mar", first_difference(fabio.open(str(path)).data, pixels.reshape(side, side)))
+
+
+def plug_in_refuses(report, folder, random):
+    """The same where FabIO departs from the page."""
+    fabio_plugin.register()
+    for name, trial in DEPARTURES:
+        path = folder / "departure"
+        trial(path)
+        try:
+            found = bruker.Reading(0, fabio.open(str(path)).data, True, "")
+        except Refusal as refusal:
+            found = bruker.Reading(refusal.number, None, True, "")
+        found, expected = shown(found), shown(bruker.library_read(path))
+        report.note("FabIO with the plug-in, departures", "" if found == expected else f"{name}: {found}, not {expected}")
+
+
 def departures(report, folder):
     print("\nWhere FabIO and dxtbx depart:")
     for name, trial in DEPARTURES + dtrek_departures.DEPARTURES + photon.DEPARTURES:
@@ -272,6 +304,9 @@ def main():
         for trial in (fabio_86, fabio_100, library_100, photon_library, photon_fabio, mar_files, mar_unread, dtrek_files, dtrek_spaced, dtrek_adsc, dtrek_rigaku, dtrek_rigaku_order):
             trial(report, folder, random)
         departures(report, folder)
+        # last, since FabIO stays changed
+        plug_in_reads(report, folder, random)
+        plug_in_refuses(report, folder, random)
     print()
     for name, (agreed, failed) in report.agreed.items():
         print(f"{name}: {agreed} comparisons agree" + (f", {failed} DIFFER" if failed else ""))
