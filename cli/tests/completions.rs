@@ -18,16 +18,13 @@ fn each_shell_gets_every_command() {
     for shell in ["bash", "zsh", "fish"] {
         let said = ran(command().args(["completions", shell]).output().unwrap());
         assert_eq!((said.status, said.err.as_str()), (Some(0), ""));
-        for name in &names {
-            assert!(said.out.contains(name.as_str()), "{shell} lacks {name}");
-        }
-        assert!(said.out.contains("names-from") && said.out.contains("shorten"), "{shell} lacks options");
+        let wanted = names.iter().map(String::as_str).chain(["names-from", "shorten"]);
+        let lacking: Vec<&str> = wanted.filter(|word| !said.out.contains(word)).collect();
+        assert!(lacking.is_empty(), "{shell} lacks {lacking:?}");
         let object = ran(command().args(["completions", shell, "--json"]).output().unwrap());
         let value: Value = serde_json::from_str(&object.out).unwrap();
-        assert_eq!(
-            (value["shell"].as_str(), value["script"].as_str().unwrap().trim_end()),
-            (Some(shell), said.out.trim_end())
-        );
+        let script = value["script"].as_str().unwrap().trim_end();
+        assert_eq!((value["shell"].as_str(), script), (Some(shell), said.out.trim_end()));
     }
 }
 

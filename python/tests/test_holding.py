@@ -1,6 +1,7 @@
 """Holdings, through the command."""
 import datetime
 import os
+import pathlib
 import pickle
 import subprocess
 import unittest
@@ -35,12 +36,13 @@ class Holdings(unittest.TestCase):
     def test_the_command_gives_the_same_files(self):
         other = Holding.open("example.sfrm", self.holding.name + "b", form="1+2")
         self.holding.correct(5, 7), self.holding.keep("2031-11-02"), self.holding.withdraw(), self.holding.amend(8)
-        for words in (["correct", other.name, "5", "7"], ["keep", other.name, "2031-11-02"], ["withdraw", other.name], ["amend", other.name, "8"]):
-            subprocess.run([places.command(), *words], check=True, capture_output=True)
-        for ending in (".held", ".ledger"):
-            with open(self.holding.name + ending, "rb") as ours, open(other.name + ending, "rb") as theirs:
-                self.assertEqual(ours.read(), theirs.read())
+        for command, *words in (["correct", "5", "7"], ["keep", "2031-11-02"], ["withdraw"], ["amend", "8"]):
+            subprocess.run([places.command(), command, other.name, *words], check=True, capture_output=True)
+        self.assertEqual(self.files(self.holding), self.files(other))
         self.holding.verify()
+
+    def files(self, holding):
+        return [pathlib.Path(holding.name + ending).read_bytes() for ending in (".held", ".ledger")]
 
     def test_refusals_have_the_library_s_numbers(self):
         self.assertEqual(refused(self.holding.withdraw).number, 22)

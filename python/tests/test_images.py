@@ -103,12 +103,9 @@ class Written(unittest.TestCase):
         self.assertTrue(numpy.shares_memory(images._counts(self.counts), self.counts))
 
     def test_counts_that_are_none(self):
-        for bad in (-1, 2**32):
-            counts = self.counts.astype("i8")
-            counts[0, 0] = bad
-            with self.assertRaises(ValueError):
-                quayrudder.write("example.sfrm", counts, "1")
-        for counts in (self.counts.astype(float), self.counts.T):
+        low, high = self.counts.astype("i8"), self.counts.astype("i8")
+        low[0, 0], high[0, 0] = -1, 2**32
+        for counts in (low, high, self.counts.astype(float), self.counts.T):
             with self.assertRaises(ValueError):
                 quayrudder.write("example.sfrm", counts, "1")
 

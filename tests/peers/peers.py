@@ -254,8 +254,8 @@ def dtrek_rigaku_order(report, folder, random):
     report.note("dxtbx reads big_endian pixels of a Pilatus as little_endian", first_difference(rigaku.dxtbx_read(path, rigaku.PILATUS), turned))
 
 
-def plug_in_reads(report, folder, random):
-    """FabIO with the plug-in: frames and plates as the library reads them."""
+def plug_in_frames(report, folder, random):
+    """FabIO with the plug-in: frames of every form, with counts that FabIO has as negative."""
     fabio_plugin.register()
     path = folder / "plugged.sfrm"
     for width, underflow in product((1, 2, 4), (0, 1, 2)):
@@ -263,6 +263,11 @@ def plug_in_reads(report, folder, random):
         bruker.fabio_write(path, pixels.clip(1, 9).astype(numpy.int32), 100, BASELINE)
         bruker.library_write(path, path.read_bytes(), pixels, width, underflow)
         report.note("FabIO with the plug-in, FORMAT 100", first_difference(fabio.open(str(path)).data, pixels))
+
+
+def plug_in_plates(report, folder, random):
+    fabio_plugin.register()
+    path = folder / "plugged.image"
     for side, order in product((1200, 2000), "<>"):
         file = mar.Mar(side, order, 301)
         pixels = mar.counts_of(random, file)
@@ -270,7 +275,7 @@ def plug_in_reads(report, folder, random):
         report.note("FabIO with the plug-in, mar", first_difference(fabio.open(str(path)).data, pixels.reshape(side, side)))
 
 
-def plug_in_refuses(report, folder, random):
+def plug_in_refuses(report, folder):
     """The same where FabIO departs from the page."""
     fabio_plugin.register()
     for name, trial in DEPARTURES:
@@ -305,8 +310,9 @@ def main():
             trial(report, folder, random)
         departures(report, folder)
         # last, since FabIO stays changed
-        plug_in_reads(report, folder, random)
-        plug_in_refuses(report, folder, random)
+        plug_in_frames(report, folder, random)
+        plug_in_plates(report, folder, random)
+        plug_in_refuses(report, folder)
     print()
     for name, (agreed, failed) in report.agreed.items():
         print(f"{name}: {agreed} comparisons agree" + (f", {failed} DIFFER" if failed else ""))
