@@ -4,6 +4,7 @@
 .PHONY: deps cli cli-test demo
 
 # What the gate runs after the proofs, in this order: targets of this file, one more line each.
+AFTER_PROOFS += gate-test
 AFTER_PROOFS += staticlib
 AFTER_PROOFS += compare-short
 AFTER_PROOFS += mar-trials
@@ -12,12 +13,21 @@ AFTER_PROOFS += amend-trials
 AFTER_PROOFS += cli-test
 AFTER_PROOFS += second-reader-test
 AFTER_PROOFS += model
+AFTER_PROOFS += python-test
+AFTER_PROOFS += examples-test
 
 # The whole gate: every crate proved from nothing, every must-fail edit refused, every program's output compared; then the rest
 # on what was proved. The last line is the prover's verdict.
 test: toolchain
+	@tools/deps python3
 	rt fmt --check
 	@tools/gate $(AFTER_PROOFS)
+
+.PHONY: gate-test
+
+# What the gate prints, for recorded logs of the prover (tests/gate).
+gate-test:
+	@tests/gate/run.sh target/gate-test
 
 # Says so where another toolchain than the pinned one is found. The proofs are checked by what is found.
 toolchain:
@@ -53,7 +63,9 @@ LIBRARY := target/staticlib/libquayrudder.a
 staticlib: $(LIBRARY)
 
 $(LIBRARY): crates.txt $(shell find crates -name '*.rt' -o -name '*.antt')
-	rt staticlib quayrudder
+	@tools/deps python3
+	@mkdir -p target
+	@tools/prover target/staticlib.log quayrudder tools/staticlib
 
 # Against plain C, FabIO and memcpy; the tables are printed.
 bench: deps-bench
@@ -118,20 +130,21 @@ faults: deps-rust
 
 # FabIO, dxtbx and CBFlib, Debian's readers and writers of the same formats, beside the library (docs/PEERS.md).
 PYTHON := /usr/bin/python3 -B
-peers: deps-peers deps-dxtbx second-reader peers-formats
-	$(PYTHON) tests/peers/peers.py $(SEED)
+PEERS := PYTHONPATH=python $(PYTHON) tests/peers/
+peers: deps-peers deps-dxtbx second-reader peers-formats python-fabio-test
+	$(PEERS)peers.py $(SEED)
 
 # What the command's expand writes, read back by others.
 peers-formats: deps-peers deps-dxtbx cli
-	$(PYTHON) tests/peers/formats.py $(SEED)
+	$(PEERS)formats.py $(SEED)
 
 # Every file in frames/ read by the library, by the second reader and by FabIO.
 compare-frames: deps-peers second-reader
-	$(PYTHON) tests/peers/compare_frames.py frames
+	$(PEERS)compare_frames.py frames
 
 # The command quayrudder (cli), from Debian's crates over the static library.
 CLI := target/cli/release/quayrudder
-DEBIAN := gcc libcbf-dev $(patsubst %,librust-%-dev,base64 chrono clap csv image indicatif rayon rustix serde-json sha2 tempfile tiff users walkdir)
+DEBIAN := gcc libcbf-dev $(patsubst %,librust-%-dev,base64 chrono clap clap-complete csv image indicatif rayon rustix serde-json sha2 tempfile tiff users walkdir)
 
 deps: deps-rust
 	@tools/deps $(DEBIAN)
@@ -167,6 +180,34 @@ cluster-test: cli
 report-test: cli
 	@tools/deps chromium chromium-driver python3-selenium
 	@tests/report/run.sh $(CLI) target/report
+
+.PHONY: examples-test python-test python-fabio-test
+
+# The README's frame, for examples.
+EXAMPLE := target/example/example.sfrm
+$(EXAMPLE): | cli
+	@mkdir -p $(@D)
+	@$(dir $(CLI))examples/example_frame $(@D)
+	@$(CLI) write --header $(@D)/header.bin --pixels $(@D)/counts.raw --form 1+1 -o $@
+
+include install/install.mk
+
+# The examples in C, Python and shell (examples), and what they print.
+examples-test: cli sharedlib $(EXAMPLE)
+	@tools/deps python3-numpy
+	@PATH="$(abspath $(dir $(CLI))):$$PATH" PYTHONPATH=$(abspath python) PYTHON="$(PYTHON)" examples/run.sh target/examples $(EXAMPLE) \
+	    -Iinclude -L$(dir $(SHARED)) -lquayrudder -Wl,-rpath,$(abspath $(dir $(SHARED)))
+
+# The Python module (python): the examples of its docstrings, and its tests.
+python-test: cli sharedlib
+	@tools/deps python3-numpy util-linux
+	@PYTHONPATH=python $(PYTHON) python/tests/run.py
+
+# The same of the FabIO plug-in, and the types by mypy. Part of make peers: it needs large packages.
+python-fabio-test: deps-peers cli sharedlib
+	@tools/deps mypy
+	@PYTHONPATH=python $(PYTHON) python/tests/run.py --fabio
+	cd python && mypy --cache-dir=../target/mypy quayrudder
 
 # The main job on an example frame: README's first command.
 demo: cli

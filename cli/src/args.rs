@@ -4,6 +4,7 @@ use crate::given::{Dated, Names};
 use crate::options::{ExpandOptions, InfoOptions, ViewOptions};
 use crate::shard::{self, Shard};
 use clap::{Arg, Args, Parser, Subcommand};
+use clap_complete::Shell;
 use quayrudder::{Date, Form};
 use std::path::PathBuf;
 
@@ -138,6 +139,14 @@ pub enum Command {
         /// What the runs have written, `-` for standard input
         #[arg(required = true, value_name = "FILE")]
         files: Vec<PathBuf>,
+    },
+    /// Say what a shell needs to complete this command's words
+    #[command(
+        after_help = "Example:\n  quayrudder completions bash > ~/.local/share/bash-completion/completions/quayrudder"
+    )]
+    Completions {
+        /// The shell
+        shell: Shell,
     },
 }
 

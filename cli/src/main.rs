@@ -4,6 +4,7 @@
 mod args;
 mod batch;
 mod clock;
+mod completions;
 mod corrections;
 mod digest;
 mod dtrek;
@@ -104,5 +105,6 @@ fn run(output: &mut Output, command: Command, seconds: Option<u32>) -> Outcome<(
         }
         Command::Report(asked) => report::report(output, &asked, wait),
         Command::Total { files } => total::total(output, &files),
+        Command::Completions { shell } => completions::completions(output, shell),
     }
 }

@@ -17,21 +17,22 @@ WARPFIL WAVELEN MAXXY AXIS ENDING DETPAR*2 LUT DISPLIM PROGRAM ROTATE BITMASK OC
 CCOLOR CSIZE DNSMET DARK AUTORNG ZEROADJ XTRANS HKL&XY AXES2 ENDING2""".split()
 
 
-def whole_header(form, baseline, count):
-    """A value for each line: `form` 86 or 100; `count` is NOVERFL's text."""
+def whole_header(form, baseline, count, lines=()):
+    """A value for each line: `form` 86 or 100; `count` is NOVERFL's text; `lines` has other values."""
     header = {}
     for word in LINES:
         name, _, times = word.partition("*")
         header[name] = "\n".join(["0"] * int(times or 1))
     header.update(FORMAT=str(form), VERSION="8" if form == 86 else "15", HDRBLKS=15, NOVERFL=count)
     header.update(LINEAR="1.0 0.0", NEXP=f"1 0 {baseline} 0 1", CREATED="2026-01-01 00:00:00", FILENAM="frame")
+    header.update(lines)
     return header
 
 
-def fabio_write(path, pixels, form, baseline=None):
+def fabio_write(path, pixels, form, baseline=None, lines=()):
     """FabIO's frame. FORMAT 100: a baseline, or None for kind none. FORMAT 86: FabIO leaves the count of overflows to its caller."""
     if form == 100:
-        image = Bruker100Image(data=pixels, header=whole_header(100, baseline or 0, "-1 0 0" if baseline is None else "0 0 0"))
+        image = Bruker100Image(data=pixels, header=whole_header(100, baseline or 0, "-1 0 0" if baseline is None else "0 0 0", lines))
     else:
         image = BrukerImage(data=pixels, header=whole_header(86, 0, "0"))
         width = image.calc_bpp()

@@ -4,9 +4,9 @@ import numpy
 import bruker
 
 
-def frame(path, form, stored, tables, novrfl, npixelb, baseline=32):
-    """A frame with a whole header and these bytes after it."""
-    image = bruker.Bruker100Image(header=bruker.whole_header(form, baseline, novrfl))
+def frame(path, form, stored, tables, novrfl, npixelb, baseline=32, lines=()):
+    """A frame with a whole header, in which some lines have other values, and these bytes after it."""
+    image = bruker.Bruker100Image(header=bruker.whole_header(form, baseline, novrfl, lines))
     image.header.update(NPIXELB=npixelb, NROWS="1", NCOLS=str(len(stored)))
     width = int(npixelb.split()[0])
     body = b"".join(int(value).to_bytes(width, "little") for value in stored)

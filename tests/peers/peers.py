@@ -1,20 +1,23 @@
 #!/usr/bin/python3
-"""FabIO's frames read by the library and the library's by FabIO, pixel by pixel; mar files by both, part by part; d*TREK images by both, by dxtbx and by CBFlib; then
-where FabIO departs from the published formats."""
+"""FabIO's frames read by the library and the library's by FabIO, and by dxtbx where it can, pixel by pixel; mar files by both, part by part; d*TREK images by both, by dxtbx and by
+CBFlib; then where FabIO and dxtbx depart from the published formats."""
 import logging
 import pathlib
 import sys
 import tempfile
 from itertools import product
 
+import fabio
 import numpy
+from quayrudder import Refusal, fabio_plugin
 
 import bruker
 import dtrek
 import dtrek_departures
 import mar
+import photon
 import rigaku
-from departures import DEPARTURES
+from departures import DEPARTURES, shown
 
 SHAPES = [(1, 1), (1, 7), (3, 5), (64, 65), (512, 512), (2048, 2048)]
 BASELINE = 32
@@ -133,6 +136,33 @@ def library_100(report, folder, random):
         both_read(report, name, path, pixels, width, underflow)
 
 
+def photon_read(report, name, path, pixels, width):
+    """All read it; dxtbx adds the baseline to pixels from the underflow table as well."""
+    both_read(report, name, path, pixels, width, 1)
+    expected = pixels + numpy.where(pixels <= BASELINE, BASELINE, 0)
+    report.note(name, first_difference(photon.read(path), expected))
+
+
+def photon_library(report, folder, random):
+    for width, least, shape in product((1, 2), (BASELINE + 1, 0), SHAPES):
+        path = folder / f"photon_{width}_{least}_{shape[0]}_{shape[1]}.sfrm"
+        pixels = counts(random, shape, 2**31 - 1, BASELINE).clip(least)
+        bruker.fabio_write(path, pixels.clip(1, 9).astype(numpy.int32), 100, BASELINE, photon.LINES)
+        written = bruker.library_write(path, path.read_bytes(), pixels, width, 1)
+        name = f"the library writes FORMAT 100 for dxtbx, width {width}, " + ("with underflows" if least == 0 else "with none")
+        report.note(name, f"refusal {written.refusal}" if written.refusal else "", "" if written.same else written.text)
+        photon_read(report, name, path, pixels, width)
+
+
+def photon_fabio(report, folder, random):
+    for shape in SHAPES:
+        path = folder / f"photon_fabio_{shape[0]}_{shape[1]}.sfrm"
+        pixels = counts(random, shape, 2**31 - 1 - 300, BASELINE)
+        pixels.ravel()[0] = BASELINE
+        bruker.fabio_write(path, pixels.astype(numpy.int32), 100, BASELINE, photon.LINES)
+        photon_read(report, "FabIO writes FORMAT 100 for dxtbx, width 1", path, pixels, 1)
+
+
 def mar_read(report, name, path, file, counts):
     """The library, and FabIO's generic reader at each part."""
     ours, expected = mar.library_read(path), counts.reshape(file.side, file.side)
@@ -224,9 +254,44 @@ def dtrek_rigaku_order(report, folder, random):
     report.note("dxtbx reads big_endian pixels of a Pilatus as little_endian", first_difference(rigaku.dxtbx_read(path, rigaku.PILATUS), turned))
 
 
+def plug_in_frames(report, folder, random):
+    """FabIO with the plug-in: frames of every form, with counts that FabIO has as negative."""
+    fabio_plugin.register()
+    path = folder / "plugged.sfrm"
+    for width, underflow in product((1, 2, 4), (0, 1, 2)):
+        pixels = counts(random, (64, 65), 2**32 - 1, BASELINE)
+        bruker.fabio_write(path, pixels.clip(1, 9).astype(numpy.int32), 100, BASELINE)
+        bruker.library_write(path, path.read_bytes(), pixels, width, underflow)
+        report.note("FabIO with the plug-in, FORMAT 100", first_difference(fabio.open(str(path)).data, pixels))
+
+
+def plug_in_plates(report, folder, random):
+    fabio_plugin.register()
+    path = folder / "plugged.image"
+    for side, order in product((1200, 2000), "<>"):
+        file = mar.Mar(side, order, 301)
+        pixels = mar.counts_of(random, file)
+        mar.make(path, random, file, pixels)
+        report.note("FabIO with the plug-in, mar", first_difference(fabio.open(str(path)).data, pixels.reshape(side, side)))
+
+
+def plug_in_refuses(report, folder):
+    """The same where FabIO departs from the page."""
+    fabio_plugin.register()
+    for name, trial in DEPARTURES:
+        path = folder / "departure"
+        trial(path)
+        try:
+            found = bruker.Reading(0, fabio.open(str(path)).data, True, "")
+        except Refusal as refusal:
+            found = bruker.Reading(refusal.number, None, True, "")
+        found, expected = shown(found), shown(bruker.library_read(path))
+        report.note("FabIO with the plug-in, departures", "" if found == expected else f"{name}: {found}, not {expected}")
+
+
 def departures(report, folder):
-    print("\nWhere FabIO departs:")
-    for name, trial in DEPARTURES + dtrek_departures.DEPARTURES:
+    print("\nWhere FabIO and dxtbx depart:")
+    for name, trial in DEPARTURES + dtrek_departures.DEPARTURES + photon.DEPARTURES:
         text = trial(folder / "frame")
         print(f"- {name}: {text}")
         report.note("departures as docs/PEERS.md has them", "" if text.startswith("as noted") else f"{name}: {text}")
@@ -241,9 +306,13 @@ def main():
     report = Report()
     with tempfile.TemporaryDirectory() as folder:
         folder = pathlib.Path(folder)
-        for trial in (fabio_86, fabio_100, library_100, mar_files, mar_unread, dtrek_files, dtrek_spaced, dtrek_adsc, dtrek_rigaku, dtrek_rigaku_order):
+        for trial in (fabio_86, fabio_100, library_100, photon_library, photon_fabio, mar_files, mar_unread, dtrek_files, dtrek_spaced, dtrek_adsc, dtrek_rigaku, dtrek_rigaku_order):
             trial(report, folder, random)
         departures(report, folder)
+        # last, since FabIO stays changed
+        plug_in_frames(report, folder, random)
+        plug_in_plates(report, folder, random)
+        plug_in_refuses(report, folder)
     print()
     for name, (agreed, failed) in report.agreed.items():
         print(f"{name}: {agreed} comparisons agree" + (f", {failed} DIFFER" if failed else ""))

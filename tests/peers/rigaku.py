@@ -1,4 +1,4 @@
-"""dxtbx's SMV readers for Rigaku's detectors, and the items of a d*TREK header that they want beside the page's required ones."""
+"""dxtbx's SMV readers for detectors of Rigaku and of ADSC, and the items of a d*TREK header that they want beside the page's required ones."""
 from typing import NamedTuple
 
 from dxtbx.format.Registry import get_format_class_for_file
@@ -12,10 +12,13 @@ class Detector(NamedTuple):
     orders: str
 
 
+ADSC = [("BEAM_CENTER_X", "10"), ("BEAM_CENTER_Y", "10"), ("DISTANCE", "100"), ("WAVELENGTH", "1.5418"), ("PIXEL_SIZE", "0.1"), ("OSC_START", "0"),
+        ("OSC_RANGE", "0.5"), ("TIME", "10"), ("DATE", "Thu Jan  1 12:00:00 2026")]
 DETECTORS = [
     Detector("FormatSMVRigakuSaturn", [("CCD_DETECTOR_DESCRIPTION", "Saturn 944")], "u2", "<>"),
     Detector("FormatSMVRigakuPilatus", [("DETECTOR_TYPE", "Pilatus 200K")], "u4", "<"),
     Detector("FormatSMVRigakuEiger", [("CCD_DETECTOR_DESCRIPTION", "Eiger 1M")], "u4", "<"),
+    Detector("FormatSMVADSC", ADSC, "u2", "<>"),
 ]
 PILATUS = DETECTORS[1]
 
@@ -49,7 +52,9 @@ SOURCE_WAVELENGTH=1 1.5418"""
 
 
 def items_of(detector, shape):
-    """dxtbx takes the sizes from DETECTOR_DIMENSIONS."""
+    """For Rigaku's dxtbx takes the sizes from DETECTOR_DIMENSIONS."""
+    if detector.items is ADSC:
+        return ADSC
     sizes = ("CCD_DETECTOR_DIMENSIONS", f"{shape[1]} {shape[0]}")
     return [sizes, *detector.items, *(tuple(line.split("=")) for line in ITEMS.splitlines())]
 
