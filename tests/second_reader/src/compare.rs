@@ -76,6 +76,18 @@ impl Outcome {
         words.join(" ")
     }
 
+    /// Each call, its refusal, and the number of lines that it gave.
+    pub fn calls(&self) -> Vec<String> {
+        let told = |((call, refusal), answer): (&(Call, u64), &Vec<u64>)| {
+            let name = call.name();
+            match CHANGE_LINES.contains(call) {
+                true => format!("{name} {refusal}/{}", answer[1]),
+                false => format!("{name} {refusal}"),
+            }
+        };
+        self.met.iter().zip(&self.answers).map(told).collect()
+    }
+
     fn note(&mut self, call: Call, answer: Vec<u64>) -> u64 {
         self.met.push((call, answer[0]));
         self.answers.push(answer);

@@ -3,6 +3,7 @@
 
 mod amend_trials;
 mod case;
+mod compact_trials;
 mod compare;
 mod dtrek;
 mod dtrek_cases;
@@ -14,6 +15,7 @@ mod frame;
 mod further;
 mod generate;
 mod held;
+mod held_trial;
 mod ledger;
 mod library;
 mod listing;
@@ -43,6 +45,7 @@ const USAGE: &str =
                      second_reader mar-trials\n\
                      second_reader dtrek-trials\n\
                      second_reader amend-trials\n\
+                     second_reader compact-trials\n\
                      second_reader expand FRAME PIXELS\n\
                      second_reader expand-dtrek FILE PIXELS\n\
                      second_reader store HEADER PIXELS WIDTH UNDERFLOW FRAME";
@@ -202,6 +205,7 @@ fn run(words: &[&str]) -> Option<ExitCode> {
         ["mar-trials"] => Some(verdict(Ok(mar_trials::run()))),
         ["dtrek-trials"] => Some(verdict(Ok(dtrek_trials::run()))),
         ["amend-trials"] => Some(verdict(Ok(amend_trials::run()))),
+        ["compact-trials"] => Some(verdict(Ok(compact_trials::run()))),
         ["expand", frame, pixels] => Some(verdict(files::expand(Call::Read, frame, pixels))),
         ["expand-dtrek", file, pixels] => {
             Some(verdict(files::expand(Call::DtrekRead, file, pixels)))
