@@ -137,63 +137,50 @@ const fn less(lines: u64) -> u64 {
     0u64.wrapping_sub(lines)
 }
 
-const REFUSED: [(&str, &str, Change); 48] = [
+/// A line of no kind among others.
+const BAD_LINES: [(&str, &str, Change); 4] = [
     ("a line of no kind alone", "", |t| t.lines.push(BAD)),
     ("a line of no kind first", "akw", |t| t.lines.insert(0, BAD)),
     ("a line of no kind between", "akw", |t| {
         t.lines.insert(2, BAD)
     }),
     ("a line of no kind last", "akw", |t| t.lines.push(BAD)),
-    ("a correction of kind 3", "ak", |t| t.lines[0][0] |= 0xC0),
-    ("a correction's last bit", "ak", |t| t.lines[0][15] |= 1),
-    ("a correction's first spare bit", "ak", |t| {
-        t.lines[0][13] |= 1
-    }),
-    ("a correction with a year", "ak", |t| t.lines[0][1] |= 4),
-    ("a correction with a month", "ak", |t| t.lines[0][2] |= 0x40),
-    ("a correction with a day", "ak", |t| t.lines[0][2] |= 2),
-    ("a keep line's last bit", "ak", |t| t.lines[1][15] |= 1),
-    ("a keep line's first spare bit", "ak", |t| {
-        t.lines[1][13] |= 1
-    }),
-    ("a keep line with a pixel", "ak", |t| t.lines[1][5] |= 2),
-    ("a keep line with an old count", "ak", |t| {
-        t.lines[1][9] |= 2
-    }),
-    ("a keep line with a new count", "ak", |t| {
-        t.lines[1][13] |= 2
-    }),
-    ("a withdrawal's last bit", "akw", |t| t.lines[2][15] |= 1),
-    ("a withdrawal's first spare bit", "akw", |t| {
-        t.lines[2][13] |= 1
-    }),
-    ("a withdrawal with a year", "akw", |t| t.lines[2][1] |= 4),
-    ("a withdrawal with a month", "akw", |t| {
-        t.lines[2][2] |= 0x40
-    }),
-    ("a withdrawal with a day", "akw", |t| t.lines[2][2] |= 2),
-    ("a withdrawal with a pixel", "akw", |t| t.lines[2][5] |= 2),
-    ("a withdrawal with an old count", "akw", |t| {
-        t.lines[2][9] |= 2
-    }),
-    ("a withdrawal with a new count", "akw", |t| {
-        t.lines[2][13] |= 2
-    }),
-    ("30 February", "a", |t| {
-        t.lines.push(keep((2031, 2, 30)).bytes())
-    }),
-    ("29 February 1900", "a", |t| {
-        t.lines.push(keep((1900, 2, 29)).bytes())
-    }),
-    ("31 April", "a", |t| {
-        t.lines.push(keep((2031, 4, 31)).bytes())
-    }),
-    ("day 0", "a", |t| t.lines.push(keep((2031, 11, 0)).bytes())),
-    ("month 0", "a", |t| t.lines.push(keep((2031, 0, 2)).bytes())),
-    ("month 13", "a", |t| {
-        t.lines.push(keep((2031, 13, 2)).bytes())
-    }),
-    ("year 0", "a", |t| t.lines.push(keep((0, 11, 2)).bytes())),
+];
+
+/// A ledger, and the line, the byte in it and the bits that are set there.
+const BITS: [(&str, &str, (usize, usize, u8)); 19] = [
+    ("a correction of kind 3", "ak", (0, 0, 0xC0)),
+    ("a correction's last bit", "ak", (0, 15, 1)),
+    ("a correction's first spare bit", "ak", (0, 13, 1)),
+    ("a correction with a year", "ak", (0, 1, 4)),
+    ("a correction with a month", "ak", (0, 2, 0x40)),
+    ("a correction with a day", "ak", (0, 2, 2)),
+    ("a keep line's last bit", "ak", (1, 15, 1)),
+    ("a keep line's first spare bit", "ak", (1, 13, 1)),
+    ("a keep line with a pixel", "ak", (1, 5, 2)),
+    ("a keep line with an old count", "ak", (1, 9, 2)),
+    ("a keep line with a new count", "ak", (1, 13, 2)),
+    ("a withdrawal's last bit", "akw", (2, 15, 1)),
+    ("a withdrawal's first spare bit", "akw", (2, 13, 1)),
+    ("a withdrawal with a year", "akw", (2, 1, 4)),
+    ("a withdrawal with a month", "akw", (2, 2, 0x40)),
+    ("a withdrawal with a day", "akw", (2, 2, 2)),
+    ("a withdrawal with a pixel", "akw", (2, 5, 2)),
+    ("a withdrawal with an old count", "akw", (2, 9, 2)),
+    ("a withdrawal with a new count", "akw", (2, 13, 2)),
+];
+
+const NO_DATES: [(&str, (u32, u32, u32)); 7] = [
+    ("30 February", (2031, 2, 30)),
+    ("29 February 1900", (1900, 2, 29)),
+    ("31 April", (2031, 4, 31)),
+    ("day 0", (2031, 11, 0)),
+    ("month 0", (2031, 0, 2)),
+    ("month 13", (2031, 13, 2)),
+    ("year 0", (0, 11, 2)),
+];
+
+const REFUSED: [(&str, &str, Change); 18] = [
     ("30 February, withdrawn", "kww", |t| {
         t.lines.insert(1, keep((2031, 2, 30)).bytes())
     }),
@@ -202,341 +189,145 @@ const REFUSED: [(&str, &str, Change); 48] = [
     ("a withdrawal of nothing first", "wak", |_| {}),
     ("a withdrawal of nothing last", "akwww", |_| {}),
     ("a withdrawal of nothing between", "akwwwlb", |_| {}),
-    (
-        "a withdrawal of nothing, then as many stand",
-        "awwkl",
-        |_| {},
-    ),
+    ("a withdrawal of nothing before others", "awwkl", |_| {}),
     ("a line more claimed than there are bytes for", "akw", |t| {
-        t.spare = 0;
-        t.beyond = 1;
+        claim(t, 0, 1)
     }),
     ("a line more claimed, 15 bytes behind", "akw", |t| {
-        t.spare = 15;
-        t.beyond = 1;
+        claim(t, 15, 1)
     }),
     ("a line more claimed, free bytes there", "akw", |t| {
-        t.beyond = 1
+        claim(t, 32, 1)
     }),
     ("three lines more claimed, bytes for two", "akw", |t| {
-        t.beyond = 3
+        claim(t, 32, 3)
     }),
-    ("4294967299 claimed", "akw", |t| t.beyond = 1 << 32),
-    ("1152921504606846979 claimed", "akw", |t| t.beyond = 1 << 60),
-    ("9223372036854775811 claimed", "akw", |t| t.beyond = 1 << 63),
+    ("4294967299 claimed", "akw", |t| claim(t, 32, 1 << 32)),
+    ("1152921504606846979 claimed", "akw", |t| {
+        claim(t, 32, 1 << 60)
+    }),
+    ("9223372036854775811 claimed", "akw", |t| {
+        claim(t, 32, 1 << 63)
+    }),
     ("18446744073709551615 claimed", "akw", |t| {
-        t.beyond = less(4)
+        claim(t, 32, less(4))
     }),
-    ("one of no bytes claimed", "", |t| {
-        t.spare = 0;
-        t.beyond = 1;
-    }),
-    ("one of 15 bytes claimed", "", |t| {
-        t.spare = 15;
-        t.beyond = 1;
-    }),
+    ("one of no bytes claimed", "", |t| claim(t, 0, 1)),
+    ("one of 15 bytes claimed", "", |t| claim(t, 15, 1)),
     ("none there, 1152921504606846976 claimed", "", |t| {
-        t.beyond = 1 << 60
+        claim(t, 32, 1 << 60)
     }),
 ];
 
-const W: Deed = Deed::Withdraw;
-const P: Deed = Deed::Purge(DATE);
-const Q: Deed = Deed::Purge((2031, 11, 3));
-const K: Deed = Deed::Keep(DATE);
-const L: Deed = Deed::Keep(LEAP_DAY);
-const C: Deed = Deed::Compact;
+/// The bytes behind the lines, and the lines claimed beside these.
+fn claim(trial: &mut Trial, spare: usize, beyond: u64) {
+    trial.spare = spare;
+    trial.beyond = beyond;
+}
 
-/// Ledger, what else is done to the trial, and further calls.
-type Further = (&'static str, &'static str, Change, &'static [Deed]);
+/// The call that a word stands for.
+fn deed(word: &str) -> Deed {
+    match word {
+        "w" => Deed::Withdraw,
+        "c" => Deed::Compact,
+        "k" => Deed::Keep(DATE),
+        "l" => Deed::Keep(LEAP_DAY),
+        "p" => Deed::Purge(DATE),
+        "q" => Deed::Purge((2031, 11, 3)),
+        other => counted(other).unwrap_or_else(|| panic!("no call {other}")),
+    }
+}
 
-const FURTHER: [Further; 24] = [
-    ("compacted twice", "akbww", |_| {}, &[C]),
-    ("compacted twice, all cancelled", "akww", |_| {}, &[C]),
-    ("compacted twice, nothing cancelled", "ak", |_| {}, &[C]),
-    ("compacted twice, no lines", "", |_| {}, &[C]),
-    (
-        "withdrawn to the first line",
-        "akbwwc",
-        |t| (t.pixels[2], t.spare) = (555, 64),
-        &[W, W, W],
-    ),
+/// A call with a date or a count: `k=2031-02-29`, `p=2031-02-29`, an amend `m=500`, or pixel 2 corrected to 500, `2=500`.
+fn counted(word: &str) -> Option<Deed> {
+    let (what, value) = word.split_once('=')?;
+    let numbers: Option<Vec<u32>> = value.split('-').map(|text| text.parse().ok()).collect();
+    match (what, &numbers?[..]) {
+        ("k", [year, month, day]) => Some(Deed::Keep((*year, *month, *day))),
+        ("p", [year, month, day]) => Some(Deed::Purge((*year, *month, *day))),
+        ("m", [count]) => Some(Deed::Amend(0, *count)),
+        (pixel, [count]) => Some(Deed::Correct(pixel.parse().ok()?, *count)),
+        _ => None,
+    }
+}
+
+fn steps(words: &str) -> Vec<Step> {
+    let words = words.split_whitespace();
+    words.map(|word| deed(word).step()).collect()
+}
+
+/// A ledger and further calls, and what else is done to the trial.
+const FURTHER: [(&str, &str, Change); 24] = [
+    ("compacted twice", "akbww: c", |_| {}),
+    ("compacted twice, all cancelled", "akww: c", |_| {}),
+    ("compacted twice, nothing cancelled", "ak: c", |_| {}),
+    ("compacted twice, no lines", ": c", |_| {}),
+    ("withdrawn to the first line", "akbwwc: w w w", |t| {
+        set(t, 555, 64)
+    }),
     (
         "withdrawn, with keep lines between",
-        "kawlbw",
-        |t| (t.pixels[2], t.spare) = (402, 64),
-        &[P, Q, W, P, Q, W, P, Q],
+        "kawlbw: p q w p q w p q",
+        |t| set(t, 402, 64),
     ),
     (
         "a purge on the day",
-        "klaw",
+        "klaw: p q p=2032-2-29 p=2032-3-1",
         |_| {},
-        &[P, Q, Deed::Purge(LEAP_DAY), Deed::Purge((2032, 3, 1))],
     ),
     (
         "a purge with the last keep line withdrawn",
-        "klw",
+        "klw: p q",
         |_| {},
-        &[P, Q],
     ),
-    (
-        "a purge with no keep line",
-        "akw",
-        |_| {},
-        &[P, Q, Deed::Purge((2031, 2, 29))],
-    ),
-    (
-        "amended again",
-        "awe",
-        |t| (t.pixels[2], t.spare) = (500, 80),
-        &[Deed::Amend(2, 540), Deed::Amend(2, 402), W],
-    ),
-    (
-        "22",
-        "akww",
-        |t| t.pixels[2] = 402,
-        &[W, Deed::Amend(2, 5), Q],
-    ),
-    (
-        "31",
-        "akwl",
-        |t| t.spare = 64,
-        &[Deed::Amend(2, 5), W, Deed::Amend(2, 5)],
-    ),
-    (
-        "23",
-        "akw",
-        |t| t.pixels[2] = 1001,
-        &[W, Deed::Amend(2, 5), Deed::Correct(2, 500), W, W],
-    ),
-    (
-        "24",
-        "kwx",
-        |_| {},
-        &[W, Deed::Amend(4, 5), Deed::Correct(4, 5)],
-    ),
-    (
-        "25",
-        "akw",
-        |_| {},
-        &[Deed::Keep((2031, 2, 29)), Deed::Purge((1900, 2, 29))],
-    ),
-    (
-        "19",
-        "akw",
-        |t| t.damage = RESPELLED,
-        &[W, Deed::Amend(2, 5), Deed::Correct(0, 5), K, Q],
-    ),
-    (
-        "17",
-        "akw",
-        |_| {},
-        &[Deed::Correct(0, 299), Deed::Amend(2, 299), W],
-    ),
-    (
-        "18",
-        "akw",
-        |_| {},
-        &[Deed::Correct(0, 70000), Deed::Amend(2, 70000), W],
-    ),
-    (
-        "one pixel many times",
-        "acwwg",
-        |t| (t.pixels[2], t.spare) = (70000, 112),
-        &[
-            Deed::Correct(2, 5),
-            W,
-            W,
-            Deed::Correct(2, 402),
-            Deed::Amend(2, 1),
-            W,
-        ],
-    ),
-    (
-        "compacted in between",
-        "akw",
-        |t| t.spare = 64,
-        &[L, W, C, K, W, C, W, C, W],
-    ),
-    ("none free: a keep entry", "akw", |t| t.spare = 0, &[K, K]),
-    (
-        "none free: a correction",
-        "akw",
-        |t| t.spare = 0,
-        &[Deed::Correct(0, 410), Deed::Correct(0, 410)],
-    ),
-    ("none free: a withdrawal", "akw", |t| t.spare = 0, &[W, W]),
-    (
-        "one free: an amend",
-        "akw",
-        |t| t.spare = 16,
-        &[Deed::Amend(2, 500), K],
-    ),
+    ("a purge with no keep line", "akw: p q p=2031-2-29", |_| {}),
+    ("amended again", "awe: m=540 m=402 w", |t| set(t, 500, 80)),
+    ("22", "akww: w m=5 q", |t| set(t, 402, 32)),
+    ("31", "akwl: m=5 w m=5", |t| t.spare = 64),
+    ("23", "akw: w m=5 2=500 w w", |t| set(t, 1001, 32)),
+    ("24", "kwx: w m=5 4=5", |_| {}),
+    ("25", "akw: k=2031-2-29 p=1900-2-29", |_| {}),
+    ("19", "akw: w m=5 0=5 k q", |t| t.damage = RESPELLED),
+    ("17", "akw: 0=299 m=299 w", |_| {}),
+    ("18", "akw: 0=70000 m=70000 w", |_| {}),
+    ("one pixel many times", "acwwg: 2=5 w w 2=402 m=1 w", |t| {
+        set(t, 70000, 112)
+    }),
+    ("compacted in between", "akw: l w c k w c w c w", |t| {
+        t.spare = 64
+    }),
+    ("none free: a keep entry", "akw: k k", |t| t.spare = 0),
+    ("none free: a correction", "akw: 0=410 0=410", |t| {
+        t.spare = 0
+    }),
+    ("none free: a withdrawal", "akw: w w", |t| t.spare = 0),
+    ("one free: an amend", "akw: m=500 k", |t| t.spare = 16),
 ];
 
-/// Bytes of the ledger, and the calls behind an opening.
-const LISTS: [(&str, usize, &[Deed]); 16] = [
-    (
-        "room for a keep entry",
-        48,
-        &[Deed::Correct(2, 1000), K, W, L, C, L, W, L],
-    ),
-    (
-        "room for a correction",
-        48,
-        &[
-            K,
-            Deed::Correct(2, 1000),
-            W,
-            Deed::Correct(1, 9),
-            C,
-            Deed::Correct(1, 9),
-        ],
-    ),
-    ("room for a withdrawal", 48, &[K, L, W, W, C, W, W]),
-    (
-        "room for an amend",
-        48,
-        &[
-            Deed::Correct(2, 1000),
-            Deed::Amend(2, 500),
-            Deed::Amend(2, 600),
-            C,
-            Deed::Amend(2, 600),
-            Deed::Amend(2, 700),
-            C,
-            Deed::Amend(2, 700),
-        ],
-    ),
-    (
-        "room for one line of an amend's two",
-        48,
-        &[
-            K,
-            L,
-            W,
-            C,
-            Deed::Correct(2, 1000),
-            Deed::Amend(2, 500),
-            C,
-            Deed::Amend(2, 500),
-            W,
-        ],
-    ),
-    (
-        "no room: all stand",
-        32,
-        &[
-            Deed::Correct(2, 1000),
-            K,
-            L,
-            C,
-            L,
-            W,
-            Deed::Amend(2, 5),
-            Deed::Correct(0, 5),
-        ],
-    ),
-    (
-        "room for a line less a byte",
-        47,
-        &[Deed::Correct(2, 1000), W, K, C, K, K],
-    ),
-    (
-        "two lines used over and over",
-        32,
-        &[
-            K,
-            W,
-            C,
-            Deed::Correct(2, 5),
-            W,
-            C,
-            L,
-            W,
-            C,
-            W,
-            C,
-            Deed::Correct(1, 9),
-        ],
-    ),
-    ("compacted before anything", 64, &[C, C, W, Q, K, C, Q]),
-    (
-        "a ledger of no bytes",
-        0,
-        &[C, K, Deed::Correct(0, 5), W, C],
-    ),
-    ("a ledger of 15 bytes", 15, &[C, K, C]),
-    (
-        "old counts stay with their lines",
-        160,
-        &[
-            Deed::Correct(2, 1000),
-            Deed::Correct(2, 9),
-            K,
-            W,
-            C,
-            W,
-            C,
-            W,
-            W,
-            C,
-        ],
-    ),
-    (
-        "withdrawn between compactions",
-        160,
-        &[
-            Deed::Correct(0, 5),
-            K,
-            Deed::Correct(1, 9),
-            L,
-            C,
-            W,
-            W,
-            C,
-            W,
-            C,
-            W,
-            C,
-            W,
-        ],
-    ),
-    (
-        "purge questions around a compaction",
-        160,
-        &[K, L, W, P, Q, C, P, Q, L, Q, C, Q, W, Q, C, Q, W, Q, C, Q],
-    ),
-    (
-        "an amend, compacted, withdrawn",
-        160,
-        &[
-            Deed::Correct(2, 1000),
-            Deed::Amend(2, 500),
-            K,
-            C,
-            W,
-            W,
-            C,
-            W,
-        ],
-    ),
-    (
-        "the last correction after compaction",
-        160,
-        &[
-            Deed::Correct(2, 1000),
-            K,
-            W,
-            C,
-            Deed::Amend(2, 500),
-            L,
-            Deed::Amend(2, 7),
-            W,
-            Deed::Amend(2, 7),
-        ],
-    ),
-];
+/// The count of pixel 2, and the bytes behind the lines.
+fn set(trial: &mut Trial, count: u32, spare: usize) {
+    trial.pixels[2] = count;
+    trial.spare = spare;
+}
+
+/// Names, bytes of the ledger, and the calls behind an opening.
+const LISTS: &str = "\
+room for a keep entry: 48: 2=1000 k w l c l w l
+room for a correction: 48: k 2=1000 w 1=9 c 1=9
+room for a withdrawal: 48: k l w w c w w
+room for an amend: 48: 2=1000 m=500 m=600 c m=600 m=700 c m=700
+room for one line of an amend's two: 48: k l w c 2=1000 m=500 c m=500 w
+no room, all stand: 32: 2=1000 k l c l w m=5 0=5
+room for a line less a byte: 47: 2=1000 w k c k k
+two lines used over and over: 32: k w c 2=5 w c l w c w c 1=9
+compacted before anything: 64: c c w q k c q
+a ledger of no bytes: 0: c k 0=5 w c
+a ledger of 15 bytes: 15: c k c
+old counts stay with their lines: 160: 2=1000 2=9 k w c w c w w c
+withdrawn between compactions: 160: 0=5 k 1=9 l c w w c w c w c w
+purge questions around a compaction: 160: k l w p q c p q l q c q w q c q w q c q
+an amend, compacted, withdrawn: 160: 2=1000 m=500 k c w w c w
+the last correction after compaction: 160: 2=1000 k w c m=500 l m=7 w m=7";
 
 /// The listing, or its first line and its last two where it has more than a dozen.
 fn shortened(lines: &[u8]) -> String {
@@ -583,25 +374,34 @@ fn long_line((name, parts): &(&str, Long)) -> String {
     answer_line(name, &trial(Call::Compact, &letters))
 }
 
+fn bit_line((name, letters, (line, byte, bits)): &(&str, &str, (usize, usize, u8))) -> String {
+    let mut trial = trial(Call::Compact, letters);
+    trial.lines[*line][*byte] |= bits;
+    answer_line(name, &trial)
+}
+
+fn date_line((name, date): &(&str, (u32, u32, u32))) -> String {
+    let mut trial = trial(Call::Compact, "a");
+    trial.lines.push(keep(*date).bytes());
+    answer_line(name, &trial)
+}
+
 fn changed_line((name, letters, change): &(&str, &str, Change)) -> String {
     let mut trial = trial(Call::Compact, letters);
     change(&mut trial);
     answer_line(name, &trial)
 }
 
-fn steps(deeds: &[Deed]) -> Vec<Step> {
-    deeds.iter().map(|deed| deed.step()).collect()
-}
-
 /// Each call's answer with and without compaction, and what is held in the end with it.
-fn further_line((name, letters, change, deeds): &Further) -> String {
+fn further_line((name, words, change): &(&str, &str, Change)) -> String {
+    let (letters, calls) = words.split_once(':').unwrap_or((words, ""));
     let mut trial = trial(Call::Further, letters);
     change(&mut trial);
-    trial.steps = steps(deeds);
+    trial.steps = steps(calls);
     let case = trial.case();
     let (outcome, note) = both(&case);
     let calls = outcome.calls();
-    let (with, without) = calls.split_at(1 + deeds.len());
+    let (with, without) = calls.split_at(1 + case.steps.len());
     let (with, without) = (with.join(", "), without.join(", "));
     let after = after_words(&case, &outcome.after);
     format!("{name}: {without} -> {with}: {after}{note}")
@@ -614,16 +414,23 @@ fn list_words(case: &Case) -> (String, Outcome) {
     (words, outcome)
 }
 
-fn list_line((name, bytes, deeds): &(&str, usize, &[Deed])) -> String {
-    let (words, _) = list_words(&list_case((1, 1), *bytes, steps(deeds)));
+fn list_line(row: &str) -> String {
+    let parts: Vec<&str> = row.split(": ").collect();
+    let [name, bytes, calls] = parts[..] else {
+        panic!("no list: {row}");
+    };
+    let bytes = bytes.parse().unwrap_or(0);
+    let (words, _) = list_words(&list_case((1, 1), bytes, steps(calls)));
     format!("list, {name}: {words}")
 }
 
 /// The calls of the amend trials' list, with a compaction behind each, in a ledger that would be too short without.
 fn form_line(form: (u32, u32)) -> String {
-    let compacted: Vec<Deed> = ACCEPTED.iter().flat_map(|deed| [*deed, C]).collect();
-    let (words, with) = list_words(&list_case(form, 5 * BYTES, steps(&compacted)));
-    let (_, without) = list_words(&list_case(form, 16 * BYTES, steps(&ACCEPTED)));
+    let alone = ACCEPTED.map(Deed::step).to_vec();
+    let compacted = |step: &Step| [*step, Deed::Compact.step()];
+    let each = alone.iter().flat_map(compacted).collect();
+    let (words, with) = list_words(&list_case(form, 5 * BYTES, each));
+    let (_, without) = list_words(&list_case(form, 16 * BYTES, alone));
     let same = match with.after.buffer == without.after.buffer {
         true => "the same frame as without",
         false => "another frame than without",
@@ -634,11 +441,15 @@ fn form_line(form: (u32, u32)) -> String {
 fn lines() -> impl Iterator<Item = String> {
     let standing = STANDING.iter().map(standing_line);
     let long = LONG.iter().map(long_line);
-    let changed = BEHIND.iter().chain(&REFUSED).map(changed_line);
+    let behind = BEHIND.iter().chain(&BAD_LINES).map(changed_line);
+    let bits = BITS.iter().map(bit_line);
+    let dates = NO_DATES.iter().map(date_line);
+    let refused = REFUSED.iter().map(changed_line);
     let further = FURTHER.iter().map(further_line);
-    let lists = LISTS.iter().map(list_line);
+    let lists = LISTS.lines().map(list_line);
     let forms = FORMS.into_iter().map(form_line);
-    let compactions = standing.chain(long).chain(changed);
+    let accepted = standing.chain(long).chain(behind);
+    let compactions = accepted.chain(bits).chain(dates).chain(refused);
     compactions.chain(further).chain(lists).chain(forms)
 }
 
