@@ -44,8 +44,8 @@ fn possible(call: Call) -> Vec<u64> {
 }
 
 /// What a compacted ledger can be, told from its case and its entries. Each has to be met.
-type Trait = fn(&Case, &[Entry]) -> bool;
-const COMPACTED: [(&str, Trait); 9] = [
+type Holds = fn(&Case, &[Entry]) -> bool;
+const COMPACTED: [(&str, Holds); 9] = [
     ("no lines", |_, entries| entries.is_empty()),
     ("nothing cancelled", |_, entries| {
         !entries.is_empty() && !entries.contains(&Entry::Withdrawal)
