@@ -137,14 +137,23 @@ const fn less(lines: u64) -> u64 {
     0u64.wrapping_sub(lines)
 }
 
-/// A line of no kind among others.
-const BAD_LINES: [(&str, &str, Change); 4] = [
+/// A line of no kind among others, of which some would move.
+const BAD_LINES: [(&str, &str, Change); 7] = [
     ("a line of no kind alone", "", |t| t.lines.push(BAD)),
     ("a line of no kind first", "akw", |t| t.lines.insert(0, BAD)),
     ("a line of no kind between", "akw", |t| {
         t.lines.insert(2, BAD)
     }),
     ("a line of no kind last", "akw", |t| t.lines.push(BAD)),
+    ("first, before some that would move", "awkbwl", |t| {
+        t.lines.insert(0, BAD)
+    }),
+    ("between some that would move", "awkbwl", |t| {
+        t.lines.insert(3, BAD)
+    }),
+    ("last, behind some that would move", "awkbwl", |t| {
+        t.lines.push(BAD)
+    }),
 ];
 
 /// A ledger, and the line, the byte in it and the bits that are set there.
@@ -180,7 +189,7 @@ const NO_DATES: [(&str, (u32, u32, u32)); 7] = [
     ("year 0", (0, 11, 2)),
 ];
 
-const REFUSED: [(&str, &str, Change); 18] = [
+const REFUSED: [(&str, &str, Change); 23] = [
     ("30 February, withdrawn", "kww", |t| {
         t.lines.insert(1, keep((2031, 2, 30)).bytes())
     }),
@@ -190,6 +199,27 @@ const REFUSED: [(&str, &str, Change); 18] = [
     ("a withdrawal of nothing last", "akwww", |_| {}),
     ("a withdrawal of nothing between", "akwwwlb", |_| {}),
     ("a withdrawal of nothing before others", "awwkl", |_| {}),
+    (
+        "a withdrawal of nothing before some that would move",
+        "wawkbwl",
+        |_| {},
+    ),
+    (
+        "a withdrawal of nothing between some that would move",
+        "awkwwbwl",
+        |_| {},
+    ),
+    (
+        "a withdrawal of nothing behind some that would move",
+        "awkbwlwww",
+        |_| {},
+    ),
+    ("a line more claimed, and some would move", "awkbwl", |t| {
+        claim(t, 0, 1)
+    }),
+    ("free bytes claimed, and some would move", "awkbwl", |t| {
+        claim(t, 32, 1)
+    }),
     ("a line more claimed than there are bytes for", "akw", |t| {
         claim(t, 0, 1)
     }),
