@@ -189,71 +189,41 @@ const NO_DATES: [(&str, (u32, u32, u32)); 7] = [
     ("year 0", (0, 11, 2)),
 ];
 
-const REFUSED: [(&str, &str, Change); 23] = [
+/// A withdrawal where nothing stands, alone and with lines that would move.
+const NOTHING_STANDS: [(&str, &str); 8] = [
+    ("a withdrawal of nothing alone", "w"),
+    ("a withdrawal of nothing first", "wak"),
+    ("a withdrawal of nothing last", "akwww"),
+    ("a withdrawal of nothing between", "akwwwlb"),
+    ("a withdrawal of nothing before others", "awwkl"),
+    ("one before some that would move", "wawkbwl"),
+    ("one between some that would move", "awkwwbwl"),
+    ("one behind some that would move", "awkbwlwww"),
+];
+
+const CANCELLED: [(&str, &str, Change); 2] = [
     ("30 February, withdrawn", "kww", |t| {
         t.lines.insert(1, keep((2031, 2, 30)).bytes())
     }),
     ("a spare bit, withdrawn", "kaw", |t| t.lines[1][15] |= 1),
-    ("a withdrawal of nothing alone", "w", |_| {}),
-    ("a withdrawal of nothing first", "wak", |_| {}),
-    ("a withdrawal of nothing last", "akwww", |_| {}),
-    ("a withdrawal of nothing between", "akwwwlb", |_| {}),
-    ("a withdrawal of nothing before others", "awwkl", |_| {}),
-    (
-        "a withdrawal of nothing before some that would move",
-        "wawkbwl",
-        |_| {},
-    ),
-    (
-        "a withdrawal of nothing between some that would move",
-        "awkwwbwl",
-        |_| {},
-    ),
-    (
-        "a withdrawal of nothing behind some that would move",
-        "awkbwlwww",
-        |_| {},
-    ),
-    ("a line more claimed, and some would move", "awkbwl", |t| {
-        claim(t, 0, 1)
-    }),
-    ("free bytes claimed, and some would move", "awkbwl", |t| {
-        claim(t, 32, 1)
-    }),
-    ("a line more claimed than there are bytes for", "akw", |t| {
-        claim(t, 0, 1)
-    }),
-    ("a line more claimed, 15 bytes behind", "akw", |t| {
-        claim(t, 15, 1)
-    }),
-    ("a line more claimed, free bytes there", "akw", |t| {
-        claim(t, 32, 1)
-    }),
-    ("three lines more claimed, bytes for two", "akw", |t| {
-        claim(t, 32, 3)
-    }),
-    ("4294967299 claimed", "akw", |t| claim(t, 32, 1 << 32)),
-    ("1152921504606846979 claimed", "akw", |t| {
-        claim(t, 32, 1 << 60)
-    }),
-    ("9223372036854775811 claimed", "akw", |t| {
-        claim(t, 32, 1 << 63)
-    }),
-    ("18446744073709551615 claimed", "akw", |t| {
-        claim(t, 32, less(4))
-    }),
-    ("one of no bytes claimed", "", |t| claim(t, 0, 1)),
-    ("one of 15 bytes claimed", "", |t| claim(t, 15, 1)),
-    ("none there, 1152921504606846976 claimed", "", |t| {
-        claim(t, 32, 1 << 60)
-    }),
 ];
 
 /// The bytes behind the lines, and the lines claimed beside these.
-fn claim(trial: &mut Trial, spare: usize, beyond: u64) {
-    trial.spare = spare;
-    trial.beyond = beyond;
-}
+const CLAIMED: [(&str, &str, (usize, u64)); 13] = [
+    ("one more than bytes hold", "akw", (0, 1)),
+    ("one more, 15 bytes behind", "akw", (15, 1)),
+    ("one more, free bytes there", "akw", (32, 1)),
+    ("one more, and some would move", "awkbwl", (0, 1)),
+    ("free bytes, and some would move", "awkbwl", (32, 1)),
+    ("three more, bytes for two", "akw", (32, 3)),
+    ("4294967299 lines", "akw", (32, 1 << 32)),
+    ("1152921504606846979 lines", "akw", (32, 1 << 60)),
+    ("9223372036854775811 lines", "akw", (32, 1 << 63)),
+    ("18446744073709551615 lines", "akw", (32, less(4))),
+    ("one line of no bytes", "", (0, 1)),
+    ("one line of 15 bytes", "", (15, 1)),
+    ("1152921504606846976 lines", "", (32, 1 << 60)),
+];
 
 /// The call that a word stands for.
 fn deed(word: &str) -> Deed {
@@ -410,6 +380,12 @@ fn bit_line((name, letters, (line, byte, bits)): &(&str, &str, (usize, usize, u8
     answer_line(name, &trial)
 }
 
+fn claimed_line((name, letters, (spare, beyond)): &(&str, &str, (usize, u64))) -> String {
+    let mut trial = trial(Call::Compact, letters);
+    (trial.spare, trial.beyond) = (*spare, *beyond);
+    answer_line(&format!("claimed, {name}"), &trial)
+}
+
 fn date_line((name, date): &(&str, (u32, u32, u32))) -> String {
     let mut trial = trial(Call::Compact, "a");
     trial.lines.push(keep(*date).bytes());
@@ -474,13 +450,16 @@ fn lines() -> impl Iterator<Item = String> {
     let behind = BEHIND.iter().chain(&BAD_LINES).map(changed_line);
     let bits = BITS.iter().map(bit_line);
     let dates = NO_DATES.iter().map(date_line);
-    let refused = REFUSED.iter().map(changed_line);
+    let nothing = NOTHING_STANDS.iter().map(standing_line);
+    let cancelled = CANCELLED.iter().map(changed_line);
+    let claimed = CLAIMED.iter().map(claimed_line);
     let further = FURTHER.iter().map(further_line);
     let lists = LISTS.lines().map(list_line);
     let forms = FORMS.into_iter().map(form_line);
     let accepted = standing.chain(long).chain(behind);
-    let compactions = accepted.chain(bits).chain(dates).chain(refused);
-    compactions.chain(further).chain(lists).chain(forms)
+    let compactions = accepted.chain(bits).chain(dates).chain(nothing);
+    let calls = compactions.chain(cancelled).chain(claimed).chain(further);
+    calls.chain(lists).chain(forms)
 }
 
 pub fn run() -> bool {

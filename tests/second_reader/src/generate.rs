@@ -585,11 +585,10 @@ fn size(random: &mut Random, number: u64) -> Size {
     }
 }
 
-pub fn case(random: &mut Random, number: u64) -> Made {
-    let size = size(random, number);
-    // The last eleven look at no frame.
+/// The last eleven look at no frame.
+fn call(random: &mut Random, size: Size) -> Call {
     let calls = if size.is_large() { 18 } else { 29 };
-    let call = match random.below(calls) {
+    match random.below(calls) {
         0..=3 => Call::Read,
         4 | 5 => Call::Write,
         6 | 7 => Call::Open,
@@ -603,13 +602,22 @@ pub fn case(random: &mut Random, number: u64) -> Made {
         19 => Call::Purge,
         20 => Call::Listing,
         21 | 22 => Call::Compact,
-        23 => return plates::headed_case(random, Call::MarEntry),
-        24 => return plates::headed_case(random, Call::MarRead),
-        25 | 26 => return dtrek_cases::case(random, Call::DtrekRead),
-        27 => return dtrek_cases::case(random, Call::DtrekHeader),
-        _ => return dtrek_cases::case(random, Call::DtrekItem),
-    };
+        23 => Call::MarEntry,
+        24 => Call::MarRead,
+        25 | 26 => Call::DtrekRead,
+        27 => Call::DtrekHeader,
+        _ => Call::DtrekItem,
+    }
+}
+
+pub fn case(random: &mut Random, number: u64) -> Made {
+    let size = size(random, number);
+    let call = call(random, size);
     let base = match call {
+        Call::MarEntry | Call::MarRead => return plates::headed_case(random, call),
+        Call::DtrekRead | Call::DtrekHeader | Call::DtrekItem => {
+            return dtrek_cases::case(random, call)
+        }
         Call::Read | Call::Write | Call::Open | Call::Header => frame_case(random, call, size),
         Call::Listing => listing_case(random, size),
         Call::List => list_case(random, size),
@@ -618,9 +626,8 @@ pub fn case(random: &mut Random, number: u64) -> Made {
     };
     let damage = damage(random, &base);
     let unframed = [Call::Keep, Call::Purge, Call::Listing, Call::Compact];
-    let framed = !unframed.contains(&call);
     Made {
-        size: framed.then_some(size),
+        size: (!unframed.contains(&call)).then_some(size),
         rare: None,
         base,
         damage,
