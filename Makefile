@@ -1,6 +1,6 @@
 # Daily work. `make test` is the gate; the rest eases the way there.
 .PHONY: test toolchain check must-fail fmt dev skeletons paths staticlib bench bench-docs clean
-.PHONY: deps-rust deps-peers deps-dxtbx deps-bench second-reader compare compare-short soak mar-trials dtrek-trials amend-trials faults peers peers-formats compare-frames
+.PHONY: deps-rust deps-peers deps-dxtbx deps-bench second-reader compare compare-short soak mar-trials dtrek-trials amend-trials compact-trials faults peers peers-formats compare-frames
 .PHONY: deps cli cli-test demo
 
 # What the gate runs after the proofs, in this order: targets of this file, one more line each.
@@ -10,6 +10,7 @@ AFTER_PROOFS += compare-short
 AFTER_PROOFS += mar-trials
 AFTER_PROOFS += dtrek-trials
 AFTER_PROOFS += amend-trials
+AFTER_PROOFS += compact-trials
 AFTER_PROOFS += cli-test
 AFTER_PROOFS += second-reader-test
 AFTER_PROOFS += model
@@ -124,7 +125,11 @@ dtrek-trials: second-reader
 amend-trials: second-reader
 	$(SECOND_READER) amend-trials
 
-# Eight deliberate faults in copies of the library, which the comparison has to find.
+# And for compactions and compact_trials.txt.
+compact-trials: second-reader
+	$(SECOND_READER) compact-trials
+
+# Nine deliberate faults in copies of the library, which the comparison has to find.
 faults: deps-rust
 	tests/second_reader/faults.sh
 

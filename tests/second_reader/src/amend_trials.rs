@@ -1,126 +1,13 @@
 //! A fixed list of amends, each with its answer written down in amend_trials.txt.
-use crate::case::{Call, Case, Step};
+use crate::case::{Call, Step};
 use crate::compare::Outcome;
-use crate::frame::{self, LINE, NAME};
-use crate::ledger::{Date, Entry, BYTES};
-use crate::listing;
-use crate::random::Random;
-use crate::sample::{self, Layout};
+use crate::held_trial::{after_words, correction, form_name, joined, keep, list_case};
+use crate::held_trial::{Change, Deed, Trial, ACCEPTED, DATE, FORMS, OPENED};
+use crate::held_trial::{BAD, KEEP, RESPELLED, WITHDRAWAL};
+use crate::ledger::BYTES;
 use crate::written_down::{self, both};
 
 const EXPECTED: &str = include_str!("../amend_trials.txt");
-
-const OPENED: [u32; 4] = [400, 401, 402, 403];
-const BASELINE: u32 = 300;
-const DATE: (u32, u32, u32) = (2031, 11, 2);
-const KEEP: Entry = Entry::Keep(Date {
-    year: DATE.0,
-    month: DATE.1,
-    day: DATE.2,
-});
-const WITHDRAWAL: Entry = Entry::Withdrawal;
-/// A line of no kind.
-const BAD: [u8; BYTES] = [0xC0; BYTES];
-/// What stands in the ledger behind its lines.
-const FREE: u8 = 0xA5;
-/// Bytes that every frame here fits in.
-const MOST: usize = 8000;
-const FORMS: [(u32, u32); 9] = [
-    (1, 0),
-    (1, 1),
-    (1, 2),
-    (2, 0),
-    (2, 1),
-    (2, 2),
-    (4, 0),
-    (4, 1),
-    (4, 2),
-];
-
-/// What is done to the held buffer.
-type Damage = fn(&mut Vec<u8>);
-
-/// A held frame of one row, its ledger, and what is asked of them.
-struct Trial {
-    call: Call,
-    form: (u32, u32),
-    pixels: [u32; 4],
-    /// Bytes of the held buffer behind the frame.
-    room: usize,
-    lines: Vec<[u8; BYTES]>,
-    /// Bytes of the ledger behind its lines.
-    spare: usize,
-    /// Lines claimed beside these.
-    beyond: u64,
-    count: u32,
-    damage: Damage,
-}
-
-const fn correction(pixel: u32, old: u32, new: u32) -> Entry {
-    Entry::Correction { pixel, old, new }
-}
-
-/// The frame of these pixels in a form.
-fn written(pixels: &[u32], form: (u32, u32)) -> Vec<u8> {
-    let header = sample::header(&mut Random(1), &Layout::one_row(4, form, BASELINE));
-    let mut out = vec![0; MOST];
-    match frame::write(&header, pixels, form.0, form.1, &mut out) {
-        Ok(length) => out.truncate(length as usize),
-        Err(refusal) => panic!("{refusal:?} for {pixels:?}"),
-    }
-    out
-}
-
-impl Trial {
-    /// Pixel 2 was corrected from 402 to 1000, and gets 500 instead; the frame just fits its buffer and two lines the ledger.
-    fn new() -> Trial {
-        let mut trial = Trial {
-            call: Call::Amend,
-            form: (1, 1),
-            pixels: OPENED,
-            room: 0,
-            lines: Vec::new(),
-            spare: 2 * BYTES,
-            beyond: 0,
-            count: 500,
-            damage: |_| {},
-        };
-        trial.last(2, 402, 1000);
-        trial
-    }
-
-    fn ledger(&mut self, entries: &[Entry]) {
-        self.lines = entries.iter().map(|entry| entry.bytes()).collect();
-    }
-
-    /// This correction is the only line, and its pixel has the new count.
-    fn last(&mut self, pixel: u32, old: u32, new: u32) {
-        self.ledger(&[correction(pixel, old, new)]);
-        self.pixels[pixel as usize] = new;
-    }
-
-    fn case(&self) -> Case {
-        let mut buffer = written(&self.pixels, self.form);
-        buffer.resize(buffer.len() + self.room, 0);
-        (self.damage)(&mut buffer);
-        let mut ledger = self.lines.concat();
-        ledger.resize(ledger.len() + self.spare, FREE);
-        let mut case = Case::of(self.call);
-        case.step.count = self.count;
-        Case {
-            buffer,
-            ledger,
-            lines: (self.lines.len() as u64).wrapping_add(self.beyond),
-            ..case
-        }
-    }
-}
-
-/// What is done to a trial.
-type Change = fn(&mut Trial);
-
-/// The counts read as the same, and the line is not as the writer spells it.
-const RESPELLED: Damage = |held| held[20 * LINE + NAME..21 * LINE].rotate_right(1);
 
 const COUNTS: [(&str, Change); 15] = [
     ("to 500", |_| {}),
@@ -248,9 +135,7 @@ const REFUSED: [(&str, Change); 19] = [
     }),
     ("a spare bit", |t| t.lines[0][15] = 1),
     ("30 February", |t| {
-        let (year, month, day) = (2031, 2, 30);
-        t.lines
-            .insert(0, Entry::Keep(Date { year, month, day }).bytes());
+        t.lines.insert(0, keep((2031, 2, 30)).bytes());
     }),
     ("as many lines claimed as bytes there are for", |t| {
         t.beyond = 2
@@ -388,32 +273,6 @@ const PAIRS: [(&str, Change); 30] = [
     }),
 ];
 
-fn joined(numbers: impl Iterator<Item = u64>) -> String {
-    let words: Vec<String> = numbers.map(|number| number.to_string()).collect();
-    words.join(" ")
-}
-
-/// What became of the held buffer and of the ledger.
-fn after_words(before: &Case, after: &Case) -> String {
-    if before.buffer == after.buffer && before.ledger == after.ledger {
-        return "untouched".to_string();
-    }
-    let mut pixels = [0; 4];
-    let Ok(extent) = frame::read(&after.buffer, &mut pixels) else {
-        return "no frame held".to_string();
-    };
-    let (used, free) = after.ledger.split_at(after.lines as usize * BYTES);
-    let cleared = after.buffer[extent.end as usize..].iter().all(|b| *b == 0);
-    let kept = free.iter().all(|byte| *byte == FREE);
-    let rest = match cleared && kept {
-        true => "",
-        false => ", the rest is not as it should be",
-    };
-    let lines = listing::listing(used).0.trim_end().replace('\n', "; ");
-    let pixels = joined(pixels.into_iter().map(u64::from));
-    format!("{pixels}, ends at {}{rest}; {lines}", extent.end)
-}
-
 fn answer_line(name: &str, trial: &Trial) -> String {
     let case = trial.case();
     let (outcome, note) = both(&case);
@@ -422,14 +281,14 @@ fn answer_line(name: &str, trial: &Trial) -> String {
 }
 
 fn changed_line((name, change): &(&str, Change)) -> String {
-    let mut trial = Trial::new();
+    let mut trial = Trial::new(Call::Amend);
     change(&mut trial);
     answer_line(name, &trial)
 }
 
 /// The amend, and what a withdrawal alone is answered.
 fn between_lines((name, change): &(&str, Change)) -> [String; 2] {
-    let mut trial = Trial::new();
+    let mut trial = Trial::new(Call::Amend);
     change(&mut trial);
     let amended = answer_line(name, &trial);
     trial.call = Call::Withdraw;
@@ -437,13 +296,6 @@ fn between_lines((name, change): &(&str, Change)) -> [String; 2] {
         amended,
         answer_line(&format!("{name}, withdrawn alone"), &trial),
     ]
-}
-
-fn form_name((width, underflow): (u32, u32)) -> String {
-    match underflow {
-        0 => width.to_string(),
-        _ => format!("{width}+{underflow}"),
-    }
 }
 
 /// Counts at which a pixel is stored another way, in one form or another.
@@ -454,71 +306,29 @@ const EDGES: [u32; 12] = [
 /// A correction amended to each of these counts, in a buffer with room enough.
 fn form_lines(form: (u32, u32)) -> impl Iterator<Item = String> {
     EDGES.into_iter().map(move |count| {
-        let mut trial = Trial::new();
+        let mut trial = Trial::new(Call::Amend);
         (trial.form, trial.count, trial.room) = (form, count, 48);
         answer_line(&format!("form {} to {count}", form_name(form)), &trial)
     })
 }
 
-/// A call of a list. An amend knows the pixel, for the two calls that it stands for.
-#[derive(Clone, Copy)]
-enum Deed {
-    Correct(u64, u32),
-    Keep,
-    Withdraw,
-    Amend(u64, u32),
+fn by_amend(deed: Deed) -> Vec<Step> {
+    vec![deed.step()]
 }
 
-impl Deed {
-    fn step(call: Call, pixel: u64, count: u32) -> Step {
-        let date = DATE;
-        Step {
-            call,
-            pixel,
-            count,
-            date,
+fn by_two_calls(deed: Deed) -> Vec<Step> {
+    match deed {
+        Deed::Amend(pixel, count) => {
+            vec![Deed::Withdraw.step(), Deed::Correct(pixel, count).step()]
         }
-    }
-
-    fn by_amend(self) -> Vec<Step> {
-        let step = match self {
-            Deed::Correct(pixel, count) => Deed::step(Call::Correct, pixel, count),
-            Deed::Keep => Deed::step(Call::Keep, 0, 0),
-            Deed::Withdraw => Deed::step(Call::Withdraw, 0, 0),
-            Deed::Amend(_, count) => Deed::step(Call::Amend, 0, count),
-        };
-        vec![step]
-    }
-
-    fn by_two_calls(self) -> Vec<Step> {
-        match self {
-            Deed::Amend(pixel, count) => [Deed::Withdraw, Deed::Correct(pixel, count)]
-                .into_iter()
-                .flat_map(Deed::by_amend)
-                .collect(),
-            other => other.by_amend(),
-        }
+        other => by_amend(other),
     }
 }
-
-const ACCEPTED: [Deed; 11] = [
-    Deed::Correct(2, 1000),
-    Deed::Amend(2, 70000),
-    Deed::Keep,
-    Deed::Correct(1, 5),
-    Deed::Amend(1, 600),
-    Deed::Amend(1, 65835),
-    Deed::Withdraw,
-    Deed::Withdraw,
-    Deed::Amend(2, 0),
-    Deed::Correct(0, 400),
-    Deed::Amend(0, 4294967295),
-];
 
 /// With room for seven lines.
 const SOME_REFUSED: [Deed; 9] = [
     Deed::Amend(0, 1),
-    Deed::Keep,
+    Deed::Keep(DATE),
     Deed::Amend(0, 1),
     Deed::Correct(2, 1000),
     Deed::Amend(2, 500),
@@ -530,15 +340,7 @@ const SOME_REFUSED: [Deed; 9] = [
 
 /// The outcome of an opening and these calls, in words, and the outcome itself.
 fn list_words(form: (u32, u32), lines: usize, steps: Vec<Step>) -> (String, Outcome) {
-    let case = Case {
-        frame: written(&OPENED, form).into(),
-        pixels: vec![0; OPENED.len()],
-        form,
-        buffer: vec![0; MOST],
-        ledger: vec![FREE; lines * BYTES],
-        steps,
-        ..Case::of(Call::List)
-    };
+    let case = list_case(form, lines * BYTES, steps);
     let (outcome, note) = both(&case);
     let answers = joined(outcome.met.iter().map(|(_, refusal)| *refusal));
     let words = format!("{answers}: {}{note}", after_words(&case, &outcome.after));
@@ -547,8 +349,8 @@ fn list_words(form: (u32, u32), lines: usize, steps: Vec<Step>) -> (String, Outc
 
 fn list_lines(form: (u32, u32)) -> [String; 2] {
     let steps = |way: fn(Deed) -> Vec<Step>| ACCEPTED.into_iter().flat_map(way).collect();
-    let (by_amends, one) = list_words(form, 16, steps(Deed::by_amend));
-    let (by_two, two) = list_words(form, 16, steps(Deed::by_two_calls));
+    let (by_amends, one) = list_words(form, 16, steps(by_amend));
+    let (by_two, two) = list_words(form, 16, steps(by_two_calls));
     let files = |outcome: Outcome| (outcome.after.buffer, outcome.after.ledger);
     let same = match files(one) == files(two) {
         true => "the same bytes",
@@ -562,7 +364,7 @@ fn list_lines(form: (u32, u32)) -> [String; 2] {
 }
 
 fn refused_list_line() -> String {
-    let steps = SOME_REFUSED.into_iter().flat_map(Deed::by_amend).collect();
+    let steps = SOME_REFUSED.into_iter().flat_map(by_amend).collect();
     format!("list with refusals: {}", list_words((1, 1), 7, steps).0)
 }
 

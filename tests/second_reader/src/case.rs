@@ -1,4 +1,4 @@
-//! A case: one call, or a list of calls from an opening, with all that is lent to it.
+//! A case: one call, a list of calls from an opening, or further calls with and without compaction, with all that is lent to it.
 use std::fmt::Write;
 use std::rc::Rc;
 
@@ -11,6 +11,7 @@ pub enum Call {
     Keep,
     Withdraw,
     Amend,
+    Compact,
     Purge,
     Header,
     Listing,
@@ -19,11 +20,13 @@ pub enum Call {
     DtrekRead,
     DtrekHeader,
     DtrekItem,
+    /// Further calls on a held frame and its ledger: after a compaction, and without one.
+    Further,
     /// A list of calls.
     List,
 }
 
-pub const CALLS: [(Call, &str); 16] = [
+pub const CALLS: [(Call, &str); 18] = [
     (Call::Read, "read"),
     (Call::Write, "write"),
     (Call::Open, "open"),
@@ -31,6 +34,7 @@ pub const CALLS: [(Call, &str); 16] = [
     (Call::Keep, "keep"),
     (Call::Withdraw, "withdraw"),
     (Call::Amend, "amend"),
+    (Call::Compact, "compact"),
     (Call::Purge, "purge"),
     (Call::Header, "header"),
     (Call::Listing, "listing"),
@@ -39,6 +43,7 @@ pub const CALLS: [(Call, &str); 16] = [
     (Call::DtrekRead, "dtrek"),
     (Call::DtrekHeader, "dtrek head"),
     (Call::DtrekItem, "dtrek item"),
+    (Call::Further, "further"),
     (Call::List, "list"),
 ];
 
@@ -70,7 +75,7 @@ pub struct Case {
     pub buffer: Vec<u8>,
     pub ledger: Vec<u8>,
     pub lines: u64,
-    /// The calls of a list, after the opening.
+    /// The calls of a list after the opening, or the further calls.
     pub steps: Vec<Step>,
 }
 

@@ -2,6 +2,7 @@
 use crate::case::{Call, Case, Mutation, Step};
 use crate::fault::Fault;
 use crate::frame::{Extent, Refusal};
+use crate::further;
 use crate::ledger::{self, Date, Entry};
 use crate::library;
 use crate::listing;
@@ -9,26 +10,60 @@ use crate::mar::Order;
 use crate::model::Model;
 use crate::{dtrek, frame, held, mar};
 
+/// The calls that answer with a number of lines.
+const CHANGE_LINES: [Call; 5] = [
+    Call::Correct,
+    Call::Keep,
+    Call::Withdraw,
+    Call::Amend,
+    Call::Compact,
+];
+
 /// What a case gave: the answers and every lent byte after each call.
 #[derive(Debug, PartialEq, Eq)]
 pub struct Outcome {
     pub met: Vec<(Call, u64)>,
     answers: Vec<Vec<u64>>,
-    /// A digest of the held buffer and the ledger after each call of a list.
-    digests: Vec<u64>,
+    /// Digests of the held buffer and of the ledger after each call of a list.
+    pub digests: Vec<(u64, u64)>,
     pub after: Case,
     respected: bool,
+    /// What A8 says of a compaction. The second reader has it true, so that a library of which it is not true differs.
+    claim: bool,
+}
+
+fn digest(bytes: &[u8]) -> u64 {
+    let step = |sum: u64, byte: &u8| (sum ^ u64::from(*byte)).wrapping_mul(0x100_0000_01B3);
+    bytes.iter().fold(0xCBF2_9CE4_8422_2325, step)
 }
 
 impl Outcome {
-    fn new(case: &Case) -> Self {
+    pub fn new(case: &Case) -> Self {
         Outcome {
             met: Vec::new(),
             answers: Vec::new(),
             digests: Vec::new(),
             after: case.clone(),
             respected: true,
+            claim: true,
         }
+    }
+
+    /// Makes calls one after another.
+    pub fn make(&mut self, steps: &[Step], call: impl Fn(&Step, &mut Outcome) -> u64) {
+        for step in steps {
+            call(step, self);
+            self.digest();
+        }
+    }
+
+    /// Takes in what another run met and answered.
+    fn join(&mut self, other: Outcome) {
+        self.met.extend(other.met);
+        self.answers.extend(other.answers);
+        self.digests.extend(other.digests);
+        self.respected &= other.respected;
+        self.claim &= other.claim;
     }
 
     /// The first call's answer.
@@ -41,6 +76,18 @@ impl Outcome {
         words.join(" ")
     }
 
+    /// Each call, its refusal, and the number of lines that it gave.
+    pub fn calls(&self) -> Vec<String> {
+        let told = |((call, refusal), answer): (&(Call, u64), &Vec<u64>)| {
+            let name = call.name();
+            match CHANGE_LINES.contains(call) {
+                true => format!("{name} {refusal}/{}", answer[1]),
+                false => format!("{name} {refusal}"),
+            }
+        };
+        self.met.iter().zip(&self.answers).map(told).collect()
+    }
+
     fn note(&mut self, call: Call, answer: Vec<u64>) -> u64 {
         self.met.push((call, answer[0]));
         self.answers.push(answer);
@@ -48,18 +95,25 @@ impl Outcome {
     }
 
     fn digest(&mut self) {
-        let bytes = self.after.buffer.iter().chain(&self.after.ledger);
-        let step = |sum: u64, byte: &u8| (sum ^ u64::from(*byte)).wrapping_mul(0x100_0000_01B3);
-        self.digests.push(bytes.fold(0xCBF2_9CE4_8422_2325, step));
+        let after = &self.after;
+        self.digests
+            .push((digest(&after.buffer), digest(&after.ledger)));
     }
 }
 
-/// The call that a step is counted as: a list starts with an opening.
+/// The call that a step is counted as: a list starts with an opening, and further calls with a compaction.
 fn counted(call: Call) -> Call {
     match call {
         Call::List => Call::Open,
+        Call::Further => Call::Compact,
         other => other,
     }
+}
+
+/// Whether compacting a compacted ledger is accepted and leaves all as it is.
+fn stays(fault: Fault, ledger: &[u8], lines: u64) -> bool {
+    let mut again = ledger.to_vec();
+    fault.compact(&mut again, lines) == (vec![0, lines], true) && again == ledger
 }
 
 fn library_step(fault: Fault, step: &Step, out: &mut Outcome) -> u64 {
@@ -73,6 +127,7 @@ fn library_step(fault: Fault, step: &Step, out: &mut Outcome) -> u64 {
         Call::Keep => library::keep(ledger, case.lines, step.date),
         Call::Withdraw => library::withdraw(held, ledger, case.lines),
         Call::Amend => fault.amend(held, ledger, case.lines, step.count),
+        Call::Compact | Call::Further => fault.compact(ledger, case.lines),
         Call::Purge => library::may_purge(ledger, case.lines, step.date),
         Call::Header => library::header(&case.frame),
         Call::Listing => library::list(ledger, held),
@@ -82,22 +137,28 @@ fn library_step(fault: Fault, step: &Step, out: &mut Outcome) -> u64 {
         Call::DtrekHeader => library::dtrek_header(&case.frame),
         Call::DtrekItem => library::dtrek_item(&case.frame, step.pixel),
     };
-    let appends = [Call::Correct, Call::Keep, Call::Withdraw, Call::Amend];
-    if appends.contains(&step.call) {
+    let call = counted(step.call);
+    if CHANGE_LINES.contains(&call) {
         case.lines = answer[1];
     }
+    let compacted = call == Call::Compact && answer[0] == 0;
+    out.claim &= !compacted || stays(fault, &case.ledger, case.lines);
     out.respected &= respected;
-    out.note(counted(step.call), answer)
+    out.note(call, answer)
 }
 
 pub fn by_library(fault: Fault, case: &Case) -> Outcome {
+    let call = |step: &Step, out: &mut Outcome| library_step(fault, step, out);
     let mut out = Outcome::new(case);
-    let refusal = library_step(fault, &case.step, &mut out);
-    if case.step.call == Call::List && refusal == 0 {
-        for step in &case.steps {
-            library_step(fault, step, &mut out);
-            out.digest();
+    let refusal = call(&case.step, &mut out);
+    match case.step.call {
+        Call::List if refusal == 0 => out.make(&case.steps, call),
+        Call::Further if refusal == 0 => {
+            let without = further::make(case, &mut out, call);
+            out.claim &= further::agree(&without, &out);
+            out.join(without);
         }
+        _ => {}
     }
     out
 }
@@ -203,42 +264,35 @@ fn listing_answer(ledger: &[u8], out: &mut [u8]) -> Vec<u64> {
     vec![0, text.len() as u64]
 }
 
-/// The answer of a call that appends so many lines where it is accepted.
-fn ledger_answer(result: Result<(), u32>, further: u64, lines: &mut u64) -> Vec<u64> {
-    *lines += if result.is_ok() { further } else { 0 };
-    vec![result.err().unwrap_or(0).into(), *lines]
+/// A call that answers with a number of lines.
+fn ledger_answer(step: &Step, case: &mut Case) -> Vec<u64> {
+    let (held, ledger, lines) = (&mut case.buffer, &mut case.ledger, case.lines);
+    let more = |further: u64| move |()| lines + further;
+    let result = match step.call {
+        Call::Correct => held::correct(held, ledger, lines, step.pixel, step.count).map(more(1)),
+        Call::Keep => ledger::keep(ledger, lines, date(step)).map(more(1)),
+        Call::Withdraw => held::withdraw(held, ledger, lines).map(more(1)),
+        Call::Amend => held::amend(held, ledger, lines, step.count).map(more(2)),
+        _ => ledger::compact(ledger, lines),
+    };
+    case.lines = result.unwrap_or(lines);
+    vec![result.err().unwrap_or(0).into(), case.lines]
 }
 
-fn second_step(step: &Step, out: &mut Outcome) -> u64 {
+pub fn second_step(step: &Step, out: &mut Outcome) -> u64 {
     let case = &mut out.after;
-    let (held, ledger) = (&mut case.buffer, &mut case.ledger);
-    let lines = case.lines;
     let answer = match step.call {
         Call::Read => read_answer(frame::read(&case.frame, &mut case.pixels)),
         Call::Write => write_answer(case),
         Call::Open | Call::List => open_answer(case),
-        Call::Correct => {
-            let result = held::correct(held, ledger, lines, step.pixel, step.count);
-            ledger_answer(result, 1, &mut case.lines)
-        }
-        Call::Keep => {
-            let result = ledger::keep(ledger, lines, date(step));
-            ledger_answer(result, 1, &mut case.lines)
-        }
-        Call::Withdraw => {
-            let result = held::withdraw(held, ledger, lines);
-            ledger_answer(result, 1, &mut case.lines)
-        }
-        Call::Amend => {
-            let result = held::amend(held, ledger, lines, step.count);
-            ledger_answer(result, 2, &mut case.lines)
-        }
+        Call::Correct | Call::Keep | Call::Withdraw => ledger_answer(step, case),
+        Call::Amend | Call::Compact | Call::Further => ledger_answer(step, case),
         Call::Purge => {
-            let result = ledger::may_purge(ledger, lines, date(step));
+            let result = ledger::may_purge(&case.ledger, case.lines, date(step));
             vec![result.err().unwrap_or(0).into()]
         }
         Call::Header => header_answer(&case.frame),
-        Call::Listing => listing_answer(ledger, held),
+        Call::Listing => listing_answer(&case.ledger, &mut case.buffer),
         Call::MarRead => read_answer(mar::read(&case.frame, &mut case.pixels)),
         Call::MarEntry => entry_answer(mar::entry(&case.frame, step.count)),
         Call::DtrekRead => read_answer(dtrek::read(&case.frame, &mut case.pixels)),
@@ -250,6 +304,9 @@ fn second_step(step: &Step, out: &mut Outcome) -> u64 {
 
 /// Enters one call into the reference model and brings the held buffer and the ledger to what it says.
 fn model_step(step: &Step, model: &mut Model, out: &mut Outcome) {
+    if step.call == Call::Compact {
+        return model_compacts(model, out);
+    }
     let one = |entry: Entry| vec![entry];
     let result = match step.call {
         Call::Correct => model.correct(step.pixel, step.count).map(one),
@@ -271,6 +328,15 @@ fn model_step(step: &Step, model: &mut Model, out: &mut Outcome) {
     out.digest();
 }
 
+fn model_compacts(model: &mut Model, out: &mut Outcome) {
+    model.compact();
+    let case = &mut out.after;
+    ledger::replace(&mut case.ledger, case.lines, &model.stack);
+    case.lines = model.lines;
+    out.note(Call::Compact, vec![0, model.lines]);
+    out.digest();
+}
+
 fn without_old(entries: &[Entry]) -> Vec<Entry> {
     let cleared = |entry: &Entry| match *entry {
         Entry::Correction { pixel, new, .. } => Entry::Correction { pixel, old: 0, new },
@@ -282,9 +348,26 @@ fn without_old(entries: &[Entry]) -> Vec<Entry> {
 pub fn by_second_reader(case: &Case) -> Outcome {
     let mut out = Outcome::new(case);
     let refusal = second_step(&case.step, &mut out);
-    if case.step.call != Call::List || refusal != 0 {
-        return out;
+    match case.step.call {
+        Call::List if refusal == 0 => by_model(case, &mut out),
+        Call::Further if refusal == 0 => {
+            let without = further::make(case, &mut out, second_step);
+            out.join(without);
+        }
+        _ => {}
     }
+    out
+}
+
+/// The case's held buffer and ledger after these calls, by the second reader.
+pub fn after(case: &Case, steps: &[Step]) -> Case {
+    let mut out = Outcome::new(case);
+    out.make(steps, second_step);
+    out.after
+}
+
+/// The calls of a list, after its opening.
+fn by_model(case: &Case, out: &mut Outcome) {
     let pixels = out.answers[0][3] * out.answers[0][4];
     let mut model = Model {
         header: case.frame.to_vec(),
@@ -296,7 +379,7 @@ pub fn by_second_reader(case: &Case) -> Outcome {
         lines: 0,
     };
     for step in &case.steps {
-        model_step(step, &mut model, &mut out);
+        model_step(step, &mut model, out);
     }
     let lines = ledger::entries(&out.after.ledger, model.lines).unwrap_or_default();
     let standing = ledger::standing(&lines);
@@ -305,7 +388,6 @@ pub fn by_second_reader(case: &Case) -> Outcome {
         without_old(&model.stack),
         "the stack"
     );
-    out
 }
 
 pub fn differ(fault: Fault, case: &Case) -> bool {
@@ -349,10 +431,12 @@ pub fn describe(fault: Fault, case: &Case) -> String {
     let pixel = |a: &[u32], b: &[u32]| a.iter().zip(b).position(|(a, b)| a != b);
     format!(
         "library {:?}\nsecond  {:?}\nguards and read-only bytes respected: {}\n\
+         A8's claim holds: {}\n\
          first different byte of buffer {:?}, of ledger {:?}, first different pixel {:?}\n",
         left.answers,
         right.answers,
         left.respected,
+        left.claim,
         first(&left.after.buffer, &right.after.buffer),
         first(&left.after.ledger, &right.after.ledger),
         pixel(&left.after.pixels, &right.after.pixels),

@@ -1,6 +1,7 @@
 //! Deliberate faults laid over the library, to see that the comparison finds them.
 use crate::dtrek;
 use crate::frame::read_header;
+use crate::ledger::BYTES;
 use crate::library::{self, Answer};
 use crate::mar::Order;
 
@@ -19,6 +20,8 @@ pub enum Fault {
     Swapped,
     /// An amend is refused where its withdrawal alone would make a frame that cannot be written.
     Between,
+    /// A compaction leaves the freed bytes as they were.
+    Freed,
 }
 
 impl Fault {
@@ -31,6 +34,7 @@ impl Fault {
             Fault::Pixels,
             Fault::Swapped,
             Fault::Between,
+            Fault::Freed,
         ];
         faults.get(number as usize).copied()
     }
@@ -81,6 +85,16 @@ impl Fault {
             }
         }
         library::amend(held, ledger, lines, count)
+    }
+
+    pub fn compact(self, ledger: &mut [u8], lines: u64) -> Answer {
+        let before = ledger.to_vec();
+        let (numbers, respected) = library::compact(ledger, lines);
+        if self == Fault::Freed && numbers[0] == 0 {
+            let left = numbers[1] as usize * BYTES;
+            ledger[left..].copy_from_slice(&before[left..]);
+        }
+        (numbers, respected)
     }
 
     pub fn mar_read(self, file: &[u8], pixels: &mut [u32]) -> Answer {

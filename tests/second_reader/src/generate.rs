@@ -1,5 +1,6 @@
 //! Cases: a valid one for each call, and the damage done to it.
 use crate::case::{Call, Case, Mutation, Step, Target};
+use crate::compare;
 use crate::dtrek_cases;
 use crate::frame::{self, Header, LINE, NAME};
 use crate::ledger::{Date, Entry, BYTES};
@@ -322,7 +323,9 @@ fn ledger_damage(random: &mut Random, ledger: &[u8], lines: u64) -> Mutation {
 fn damage(random: &mut Random, case: &Case) -> Vec<Mutation> {
     let target = match case.step.call {
         Call::Read | Call::Write | Call::Open | Call::Header | Call::List => Target::Frame,
-        Call::Correct | Call::Withdraw | Call::Amend if random.once_in(2) => Target::Buffer,
+        Call::Correct | Call::Withdraw | Call::Amend | Call::Further if random.once_in(2) => {
+            Target::Buffer
+        }
         _ => Target::Ledger,
     };
     let length = match case.step.call {
@@ -431,14 +434,8 @@ fn frame_case(random: &mut Random, call: Call, size: Size) -> Case {
     }
 }
 
-fn list_case(random: &mut Random, size: Size) -> Case {
-    let mut case = frame_case(random, Call::List, size);
-    let pixels = case.pixels.len();
-    let most = match size {
-        Size::Large | Size::Full => 2,
-        _ if pixels > 2000 => 4,
-        _ => 40,
-    };
+/// Calls in any order. A compaction has often the call before it made again behind it: there may be room for it then.
+fn steps(random: &mut Random, most: usize, pixels: usize, baseline: u32) -> Vec<Step> {
     let calls = [
         Call::Correct,
         Call::Correct,
@@ -447,11 +444,30 @@ fn list_case(random: &mut Random, size: Size) -> Case {
         Call::Amend,
         Call::Purge,
     ];
-    let baseline = frame::read_header(&case.frame).map_or(0, |header| header.baseline as u32);
+    let seldom = random.pick(&[4, 12, 40]);
+    let mut steps = Vec::new();
     for _ in 0..random.index(most + 1) {
         let call = random.pick(&calls);
-        case.steps.push(step(random, call, pixels, baseline));
+        let next = step(random, call, pixels, baseline);
+        steps.push(next);
+        if random.once_in(seldom) {
+            steps.push(step(random, Call::Compact, pixels, baseline));
+            steps.extend(random.once_in(2).then_some(next));
+        }
     }
+    steps
+}
+
+fn list_case(random: &mut Random, size: Size) -> Case {
+    let mut case = frame_case(random, Call::List, size);
+    let pixels = case.pixels.len();
+    let most = match size {
+        Size::Large | Size::Full => 2,
+        _ if pixels > 2000 => 4,
+        _ => 40,
+    };
+    let baseline = frame::read_header(&case.frame).map_or(0, |header| header.baseline as u32);
+    case.steps = steps(random, most, pixels, baseline);
     let lines = random.pick(&[0, 1, 5, 20, 60, 60]) * BYTES + random.index(BYTES);
     case.ledger = any_bytes(random, lines);
     case
@@ -487,6 +503,44 @@ fn held_case(random: &mut Random, call: Call, size: Size) -> Case {
         lines,
         ..Case::of(call)
     }
+}
+
+/// A purge question for the date of a keep line, or for the day after it.
+fn asked_for(random: &mut Random, ledger: &[u8], question: &mut Step) {
+    let lines = ledger.chunks_exact(BYTES).filter_map(Entry::parse);
+    let dates = lines.filter_map(|entry| match entry {
+        Entry::Keep(date) => Some((date.year, date.month, date.day)),
+        _ => None,
+    });
+    let dates: Vec<_> = dates.collect();
+    if !dates.is_empty() {
+        let (year, month, day) = random.pick(&dates);
+        question.date = (year, month, day + random.below(2) as u32);
+    }
+}
+
+/// Further calls on a held frame and a ledger, which in half of the cases came about by calls.
+fn further_case(random: &mut Random, size: Size) -> Case {
+    let mut case = held_case(random, Call::Further, size);
+    let header = frame::read_header(&case.buffer).unwrap_or_default();
+    let (pixels, baseline) = (header.pixels(), header.baseline as u32);
+    let most = match pixels {
+        0..=2000 => 12,
+        _ => 1,
+    };
+    if random.once_in(2) {
+        let calls = steps(random, 2 * most, pixels, baseline);
+        let room = random.pick(&[1, 5, 20, 60]) * BYTES + random.index(BYTES);
+        case.ledger = any_bytes(random, room);
+        case.lines = 0;
+        case = compare::after(&case, &calls);
+    }
+    case.steps = steps(random, most, pixels, baseline);
+    let is_question = |step: &&mut Step| step.call == Call::Purge;
+    for question in case.steps.iter_mut().filter(is_question) {
+        asked_for(random, &case.ledger, question);
+    }
+    case
 }
 
 /// Most often a ledger of whole lines, and room for its text or one byte less.
@@ -531,11 +585,10 @@ fn size(random: &mut Random, number: u64) -> Size {
     }
 }
 
-pub fn case(random: &mut Random, number: u64) -> Made {
-    let size = size(random, number);
-    // The last nine look at no frame.
-    let calls = if size.is_large() { 17 } else { 26 };
-    let call = match random.below(calls) {
+/// The last eleven look at no frame.
+fn call(random: &mut Random, size: Size) -> Call {
+    let calls = if size.is_large() { 18 } else { 29 };
+    match random.below(calls) {
         0..=3 => Call::Read,
         4 | 5 => Call::Write,
         6 | 7 => Call::Open,
@@ -544,25 +597,37 @@ pub fn case(random: &mut Random, number: u64) -> Made {
         12 | 13 => Call::Amend,
         14 | 15 => Call::List,
         16 => Call::Header,
-        17 => Call::Keep,
-        18 => Call::Purge,
-        19 => Call::Listing,
-        20 => return plates::headed_case(random, Call::MarEntry),
-        21 => return plates::headed_case(random, Call::MarRead),
-        22 | 23 => return dtrek_cases::case(random, Call::DtrekRead),
-        24 => return dtrek_cases::case(random, Call::DtrekHeader),
-        _ => return dtrek_cases::case(random, Call::DtrekItem),
-    };
+        17 => Call::Further,
+        18 => Call::Keep,
+        19 => Call::Purge,
+        20 => Call::Listing,
+        21 | 22 => Call::Compact,
+        23 => Call::MarEntry,
+        24 => Call::MarRead,
+        25 | 26 => Call::DtrekRead,
+        27 => Call::DtrekHeader,
+        _ => Call::DtrekItem,
+    }
+}
+
+pub fn case(random: &mut Random, number: u64) -> Made {
+    let size = size(random, number);
+    let call = call(random, size);
     let base = match call {
+        Call::MarEntry | Call::MarRead => return plates::headed_case(random, call),
+        Call::DtrekRead | Call::DtrekHeader | Call::DtrekItem => {
+            return dtrek_cases::case(random, call)
+        }
         Call::Read | Call::Write | Call::Open | Call::Header => frame_case(random, call, size),
         Call::Listing => listing_case(random, size),
         Call::List => list_case(random, size),
+        Call::Further => further_case(random, size),
         _ => held_case(random, call, size),
     };
     let damage = damage(random, &base);
-    let framed = !matches!(call, Call::Keep | Call::Purge | Call::Listing);
+    let unframed = [Call::Keep, Call::Purge, Call::Listing, Call::Compact];
     Made {
-        size: framed.then_some(size),
+        size: (!unframed.contains(&call)).then_some(size),
         rare: None,
         base,
         damage,

@@ -121,6 +121,21 @@ pub fn append(ledger: &mut [u8], lines: u64, entry: Entry) {
     ledger[from..from + BYTES].copy_from_slice(&entry.bytes());
 }
 
+/// Puts these entries in place of the lines used, and 0 into what is left of their bytes.
+pub fn replace(ledger: &mut [u8], lines: u64, entries: &[Entry]) {
+    ledger[..lines as usize * BYTES].fill(0);
+    for (line, entry) in (0..).zip(entries) {
+        append(ledger, line, *entry);
+    }
+}
+
+/// How many lines are left, which are those that stood, or 20.
+pub fn compact(ledger: &mut [u8], lines: u64) -> Result<u64, u32> {
+    let left = standing(&entries(ledger, lines)?);
+    replace(ledger, lines, &left);
+    Ok(left.len() as u64)
+}
+
 pub fn keep(ledger: &mut [u8], lines: u64, date: Date) -> Result<(), u32> {
     entries(ledger, lines)?;
     if !date.is_calendar() {

@@ -154,10 +154,19 @@ pub fn correct(held: &mut [u8], ledger: &mut [u8], lines: u64, pixel: u64, count
     change_by(call, held, ledger)
 }
 
-pub fn keep(ledger: &mut [u8], lines: u64, day: (u32, u32, u32)) -> Answer {
+/// A call that is lent the ledger alone.
+fn ledger_by(call: impl Fn(&mut [u8]) -> LedgerAnswer, ledger: &mut [u8]) -> Answer {
     let mut a = Lent::new(ledger, BYTE);
-    let r = quayrudder::keep(a.middle(), lines, date(day));
+    let r = call(a.middle());
     (ledger_numbers(r), a.give_back(ledger))
+}
+
+pub fn keep(ledger: &mut [u8], lines: u64, day: (u32, u32, u32)) -> Answer {
+    ledger_by(|l| quayrudder::keep(l, lines, date(day)), ledger)
+}
+
+pub fn compact(ledger: &mut [u8], lines: u64) -> Answer {
+    ledger_by(|l| quayrudder::compact(l, lines), ledger)
 }
 
 pub fn withdraw(held: &mut [u8], ledger: &mut [u8], lines: u64) -> Answer {

@@ -3,6 +3,7 @@
 
 mod amend_trials;
 mod case;
+mod compact_trials;
 mod compare;
 mod dtrek;
 mod dtrek_cases;
@@ -11,8 +12,10 @@ mod dtrek_trials;
 mod fault;
 mod files;
 mod frame;
+mod further;
 mod generate;
 mod held;
+mod held_trial;
 mod ledger;
 mod library;
 mod listing;
@@ -37,11 +40,12 @@ use std::time::{Duration, Instant, SystemTime, UNIX_EPOCH};
 use tally::Tally;
 
 const USAGE: &str =
-    "second_reader compare [--seed N] [--seconds S] [--fault 1..6] [--case FILE] [--trace 1]\n\
-                     second_reader replay FILE [--fault 1..6]\n\
+    "second_reader compare [--seed N] [--seconds S] [--fault 1..7] [--case FILE] [--trace 1]\n\
+                     second_reader replay FILE [--fault 1..7]\n\
                      second_reader mar-trials\n\
                      second_reader dtrek-trials\n\
                      second_reader amend-trials\n\
+                     second_reader compact-trials\n\
                      second_reader expand FRAME PIXELS\n\
                      second_reader expand-dtrek FILE PIXELS\n\
                      second_reader store HEADER PIXELS WIDTH UNDERFLOW FRAME";
@@ -99,6 +103,9 @@ fn agree(options: &Options, tally: &mut Tally, base: &Case, mutations: Vec<Mutat
     let left = compare::by_library(options.fault, &case);
     let right = compare::by_second_reader(&case);
     tally.add(case.step.call, &right.met);
+    if matches!(case.step.call, Call::Compact | Call::Further) {
+        tally.add_compacted(&case);
+    }
     if left != right {
         println!("difference in case {}", tally.cases());
         report(options, &compare::shrink(options.fault, base, mutations));
@@ -106,7 +113,7 @@ fn agree(options: &Options, tally: &mut Tally, base: &Case, mutations: Vec<Mutat
     left == right
 }
 
-/// Whether to go on: for the seconds asked, and on a slow machine up to four times as long until every refusal was met.
+/// Whether to go on: for the seconds asked, and on a slow machine up to four times as long until every refusal and every kind of ledger was met.
 fn goes_on(options: &Options, tally: &Tally, elapsed: Duration) -> bool {
     let asked = Duration::from_secs(options.seconds);
     elapsed < asked || (elapsed < 4 * asked && !tally.all_reached())
@@ -198,6 +205,7 @@ fn run(words: &[&str]) -> Option<ExitCode> {
         ["mar-trials"] => Some(verdict(Ok(mar_trials::run()))),
         ["dtrek-trials"] => Some(verdict(Ok(dtrek_trials::run()))),
         ["amend-trials"] => Some(verdict(Ok(amend_trials::run()))),
+        ["compact-trials"] => Some(verdict(Ok(compact_trials::run()))),
         ["expand", frame, pixels] => Some(verdict(files::expand(Call::Read, frame, pixels))),
         ["expand-dtrek", file, pixels] => {
             Some(verdict(files::expand(Call::DtrekRead, file, pixels)))

@@ -102,6 +102,11 @@ impl Model {
         }
     }
 
+    /// The ledger's lines are then the stack's entries.
+    pub fn compact(&mut self) {
+        self.lines = self.stack.len() as u64;
+    }
+
     pub fn may_purge(&self, asked: Date) -> Result<(), u32> {
         ledger::purge_answer(&self.stack, asked)
     }

@@ -396,12 +396,45 @@ pub fn asked(random: &mut Random) -> (u32, u32, u32) {
     }
 }
 
-/// Lines of which the corrections, but for a few, have the pixels' own counts as new ones.
+/// A keep line, or a correction that, but for a few, has the pixel's own count as the new one.
+fn entry(random: &mut Random, pixels: &[u32], baseline: u32) -> Entry {
+    if random.once_in(3) {
+        return Entry::Keep(date(random));
+    }
+    let far = random.once_in(12);
+    let place = if far {
+        random.below(1 << 24) as usize
+    } else {
+        random.index(pixels.len())
+    };
+    let own = pixels.get(place).copied().unwrap_or(0);
+    let new = if random.once_in(10) {
+        count(random, baseline)
+    } else {
+        own
+    };
+    let (pixel, old) = (place as u32, count(random, baseline));
+    Entry::Correction { pixel, old, new }
+}
+
+/// What stands before a correction that amends another one: that one, of the same pixel, and its withdrawal.
+fn amended(random: &mut Random, last: Entry, baseline: u32) -> Vec<Entry> {
+    let Entry::Correction { pixel, old, .. } = last else {
+        return Vec::new();
+    };
+    let new = count(random, baseline);
+    vec![Entry::Correction { pixel, old, new }, Entry::Withdrawal]
+}
+
+/// Lines with more or fewer withdrawals among them, and now and then one for each that stood at the end.
 pub fn entries(random: &mut Random, pixels: &[u32], baseline: u32) -> Vec<Entry> {
-    let length = random.pick(&[0, 1, 1, 2, 4, 8, 30]);
+    let length = match random.once_in(100) {
+        true => 300,
+        false => random.pick(&[0, 1, 1, 2, 4, 8, 30]),
+    };
     let mut lines = Vec::new();
     let mut depth = 0;
-    let deep = random.pick(&[2, 3, 6]);
+    let deep = random.pick(&[2, 2, 3, 3, 6, u64::MAX]);
     for _ in 0..random.index(length + 1) {
         if depth > 0 && random.once_in(deep) {
             depth -= 1;
@@ -409,24 +442,14 @@ pub fn entries(random: &mut Random, pixels: &[u32], baseline: u32) -> Vec<Entry>
             continue;
         }
         depth += 1;
-        if random.once_in(3) {
-            lines.push(Entry::Keep(date(random)));
-            continue;
+        let last = entry(random, pixels, baseline);
+        if random.once_in(8) && deep < u64::MAX {
+            lines.extend(amended(random, last, baseline));
         }
-        let far = random.once_in(12);
-        let place = if far {
-            random.below(1 << 24) as usize
-        } else {
-            random.index(pixels.len())
-        };
-        let own = pixels.get(place).copied().unwrap_or(0);
-        let new = if random.once_in(10) {
-            count(random, baseline)
-        } else {
-            own
-        };
-        let (pixel, old) = (place as u32, count(random, baseline));
-        lines.push(Entry::Correction { pixel, old, new });
+        lines.push(last);
+    }
+    if random.once_in(8) {
+        lines.resize(lines.len() + depth, Entry::Withdrawal);
     }
     lines
 }

@@ -1,8 +1,9 @@
 //! The second reader against values worked out by hand.
-use crate::case::Case;
-use crate::compare;
+use crate::case::{Call, Case, Step};
+use crate::compare::{self, Outcome};
 use crate::dtrek;
 use crate::frame::{self, refuse, Refusal};
+use crate::further;
 use crate::generate;
 use crate::held;
 use crate::ledger::{self, Date, Entry};
@@ -93,6 +94,82 @@ fn standing_after_two_withdrawals() {
 }
 
 #[test]
+fn compaction_frees_bytes_and_no_others() {
+    let correction = |new| Entry::Correction {
+        pixel: 1,
+        old: 7,
+        new,
+    };
+    let (keep, gone) = (Entry::Keep(day(2031, 11, 2)), Entry::Withdrawal);
+    let lines = [correction(8), gone, keep, correction(9), keep, gone];
+    let mut ledger: Vec<u8> = lines.iter().flat_map(|line| line.bytes()).collect();
+    ledger.extend([5; 19]);
+    let before = ledger.clone();
+    assert_eq!(ledger::compact(&mut ledger, 8), Err(20));
+    assert_eq!(ledger::compact(&mut ledger, 7), Err(20));
+    assert_eq!(ledger, before);
+    assert_eq!(ledger::compact(&mut ledger, 6), Ok(2));
+    assert_eq!(ledger[..16], keep.bytes());
+    assert_eq!(ledger[16..32], correction(9).bytes());
+    assert_eq!(ledger[32..96], [0; 64]);
+    assert_eq!(ledger[96..], [5; 19]);
+    assert_eq!(ledger::compact(&mut ledger, 0), Ok(0));
+    assert_eq!(ledger::may_purge(&ledger, 2, day(2031, 11, 3)), Ok(()));
+}
+
+/// A frame of 5 and 9, and a ledger that had pixel 1 corrected from 7 to 8, a keep date withdrawn, and 8 made 9.
+fn compacted_case() -> (Case, [Entry; 2]) {
+    let header = sample::header(&mut Random(1), &one_row(2, 4, 0));
+    let mut buffer = vec![0; header.len() + 8];
+    assert!(frame::write(&header, &[5, 9], 4, 0, &mut buffer).is_ok());
+    let correction = |old, new| Entry::Correction { pixel: 1, old, new };
+    let (keep, gone) = (Entry::Keep(day(2031, 11, 2)), Entry::Withdrawal);
+    let left = [correction(7, 8), correction(8, 9)];
+    let lines = [left[0], keep, gone, left[1]];
+    let mut ledger: Vec<u8> = lines.iter().flat_map(|line| line.bytes()).collect();
+    ledger.resize(6 * 16, 0);
+    let base = Case::of(Call::Further);
+    let date = (2031, 11, 3);
+    let next = |call| Step {
+        call,
+        date,
+        ..base.step
+    };
+    let steps = vec![Call::Withdraw, Call::Purge, Call::Withdraw, Call::Keep];
+    let case = Case {
+        buffer,
+        ledger,
+        lines: 4,
+        steps: steps.into_iter().map(next).collect(),
+        ..base.clone()
+    };
+    (case, left)
+}
+
+/// Whether A8's claim is found to hold where a compaction leaves these entries.
+fn claim_holds(case: &Case, left: &[Entry]) -> bool {
+    let mut with = Outcome::new(case);
+    ledger::replace(&mut with.after.ledger, case.lines, left);
+    with.after.lines = left.len() as u64;
+    with.met.push((Call::Compact, 0));
+    let without = further::make(case, &mut with, compare::second_step);
+    further::agree(&without, &with)
+}
+
+#[test]
+fn a_wrong_compaction_breaks_the_claim() {
+    let (mut case, left) = compacted_case();
+    let keep = Entry::Keep(day(1, 1, 1));
+    assert!(claim_holds(&case, &left));
+    assert!(!claim_holds(&case, &left[..1]));
+    assert!(!claim_holds(&case, &left[1..]));
+    assert!(!claim_holds(&case, &[left[1], left[0]]));
+    assert!(!claim_holds(&case, &[keep, left[0], left[1]]));
+    case.ledger.truncate(4 * 16);
+    assert!(claim_holds(&case, &[]));
+}
+
+#[test]
 fn an_amend_keeps_the_count_before() {
     let header = sample::header(&mut Random(1), &one_row(2, 4, 0));
     let mut held = vec![0; header.len() + 8];
@@ -114,9 +191,9 @@ fn an_amend_keeps_the_count_before() {
     assert_eq!(held::amend(&mut held, &mut ledger, 4, 9), Err(31));
 }
 
-#[test]
-fn the_model_amends_only_a_correction_on_top() {
-    let mut model = Model {
+/// Two pixels, 5 and 7, with room for five lines.
+fn pair_model() -> Model {
+    Model {
         header: sample::header(&mut Random(1), &one_row(2, 4, 0)),
         opened: vec![5, 7],
         form: (4, 0),
@@ -124,7 +201,12 @@ fn the_model_amends_only_a_correction_on_top() {
         ledger_length: 5 * 16,
         stack: Vec::new(),
         lines: 0,
-    };
+    }
+}
+
+#[test]
+fn the_model_amends_only_a_correction_on_top() {
+    let mut model = pair_model();
     assert_eq!(model.amend(9), Err(22));
     assert!(model.keep(day(2031, 11, 2)).is_ok() && model.amend(9) == Err(31));
     assert!(model.correct(1, 8).is_ok());
@@ -136,6 +218,22 @@ fn the_model_amends_only_a_correction_on_top() {
     model.held_length = 7687;
     model.ledger_length = 6 * 16;
     assert_eq!((model.amend(9), model.pixels()), (Err(18), vec![5, 9]));
+}
+
+#[test]
+fn the_model_has_room_after_compaction() {
+    let mut model = Model {
+        ledger_length: 3 * 16,
+        ..pair_model()
+    };
+    let keep = Entry::Keep(day(2031, 11, 2));
+    assert!(model.keep(day(2031, 11, 2)).is_ok() && model.correct(1, 8).is_ok());
+    assert!(model.withdraw().is_ok());
+    assert_eq!(model.keep(day(2032, 1, 1)), Err(21));
+    model.compact();
+    assert_eq!((model.lines, &model.stack), (1, &vec![keep]));
+    assert!(model.correct(0, 6).is_ok());
+    assert_eq!((model.pixels(), model.lines), (vec![6, 7], 2));
 }
 
 const DTREK: &[u8] =
