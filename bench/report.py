@@ -35,9 +35,13 @@ def summary(rows, column, mark):
     return f"{below} of {len(ratios)} rows are at or below {mark}. The largest ratio is {largest} ({name})."
 
 
+def rows_of(lines, start):
+    return [line for line in lines[2:] if line.startswith(f"| {start}")]
+
+
 def part(lines, start, column, mark):
     """A table of the rows that start so, with its summary."""
-    rows = [line for line in lines[2:] if line.startswith(f"| {start}")]
+    rows = rows_of(lines, start)
     return "\n".join([*lines[:2], *rows, "", summary(rows, column, mark)])
 
 
@@ -73,6 +77,12 @@ def bench_tables(build):
     return {"reading": part(lines, "read", 6, 1.0), "writing": part(lines, "write", 6, 1.0)}
 
 
+def compact_tables(build):
+    """Two tables without a mark."""
+    lines = run(build, "compact")
+    return {call: "\n".join([*lines[:2], *rows_of(lines, call)]) for call in ("compact", "purge")}
+
+
 def fabio_table(build):
     theirs = fabio_rows.table(build)
     print(theirs)
@@ -87,6 +97,7 @@ RUNS = {
     "mar": lambda build: {"mar": part(run(build, "mar"), "read", 6, 1.0)},
     "dtrek": lambda build: {"dtrek": part(run(build, "dtrek"), "read", 6, 1.0)},
     "dtrek_header": lambda build: {"dtrek_header": "\n".join(run(build, "dtrek_header"))},
+    "compact": compact_tables,
     "fabio": fabio_table,
 }
 

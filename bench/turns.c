@@ -5,9 +5,21 @@
 #include <stdlib.h>
 #include <string.h>
 
-void print_head(void) {
-    puts("| file | side | gcc -O3, ns/pixel | clang -O3 | quayrudder | memcpy of the image | ratio to the faster |");
+void print_columns(const char *about, const char *size, const char *unit, const char *copied) {
+    printf("| %s | %s | gcc -O3, ns/%s | clang -O3 | quayrudder | %s | ratio to the faster |\n", about, size, unit, copied);
     puts("|---|---|---|---|---|---|---|");
+}
+
+void print_best(const char *name, unsigned size, const double best[4], size_t n, int wrong) {
+    double faster = best[0] < best[1] ? best[0] : best[1], scale = 1e9 / (double)n;
+    printf("| %s | %4u | %6.3f | %6.3f | %6.3f | %6.3f | %5.2f |%s\n", name, size, best[0] * scale, best[1] * scale, best[2] * scale, best[3] * scale,
+           best[2] / faster, wrong ? " WRONG" : "");
+    fflush(stdout);
+    if (wrong) exit(1);
+}
+
+void print_head(void) {
+    print_columns("file", "side", "pixel", "memcpy of the image");
 }
 
 /* Each once; pixels are compared with those expected, if any are given. The answer: 0, or a refusal, or 99 where pixels differ. */
@@ -29,10 +41,6 @@ void print_row(const char *name, unsigned side, reader *read, const void *file, 
     int wrong = read(0, file, expected);
     /* compared in the first round only, as bench.c says */
     for (int round = 0; round < rounds && !wrong; round++) wrong = turn(read, file, px, n, round ? 0 : expected, best);
-    double faster = best[0] < best[1] ? best[0] : best[1], scale = 1e9 / (double)n;
-    printf("| %s | %4u | %6.3f | %6.3f | %6.3f | %6.3f | %5.2f |%s\n", name, side, best[0] * scale, best[1] * scale, best[2] * scale, best[3] * scale,
-           best[2] / faster, wrong ? " WRONG" : "");
-    fflush(stdout);
     free(px), free(expected);
-    if (wrong) exit(1);
+    print_best(name, side, best, n, wrong);
 }
