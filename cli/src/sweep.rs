@@ -198,7 +198,7 @@ impl Job<'_> {
         }
         let into = self.into.map(|into| into.join(name.strip_prefix(self.folder).unwrap_or(name)));
         let what = into.as_ref().map_or("deleting".into(), |to| format!("moving to {}", shown(to)));
-        log.before(&what, name, &contents.ledger, &contents.state)?;
+        log.before(&what, name, &contents)?;
         let removed = owned.remove(contents.state, into.as_deref());
         self.log_removal(owned, removed, into, log)
     }
