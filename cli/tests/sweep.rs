@@ -283,8 +283,8 @@ fn a_ledger_alone_is_no_holding_and_stays() {
     f.put("a.ledger", KEPT);
     let ran = f.run_on(DUE, "sweep . --day 2031-11-03 --delete");
     assert!(ran.status == Some(0) && ran.out.starts_with("not a holding ./a\n") && f.has("a.ledger"), "{ran:?}");
-    for words in ["keep a 2040-01-01", "may-purge a 2031-11-03", "withdraw a", "correct a 1 1", "amend a 1", "verify a"]
-    {
+    let changes = ["keep a 2040-01-01", "withdraw a", "correct a 1 1", "amend a 1", "compact a"];
+    for words in ["may-purge a 2031-11-03", "verify a"].into_iter().chain(changes) {
         let ran = f.run(words);
         assert!(ran.status == Some(4) && ran.err.contains("a.held: is missing"), "{words}: {ran:?}");
     }
