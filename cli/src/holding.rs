@@ -244,12 +244,14 @@ impl Holding {
 
     /// The files that a record is about as they are now.
     pub fn found(&self, record: &Record) -> Outcome<State> {
-        let digest = |path| files::read_if_there(path).map(|found| found.map(|bytes| Digest::of(&bytes)));
-        let log = if record.has_log() { digest(&self.log)? } else { None };
-        Ok(State { held: digest(&self.held)?, ledger: digest(&self.ledger)?, log })
+        let digest = |found: Option<Vec<u8>>| found.map(|bytes| Digest::of(&bytes));
+        let log = if record.has_log() { files::read_if_there(&self.log) } else { compaction_log::read(&self.log) };
+        let [held, ledger] = [&self.held, &self.ledger].map(|path| files::read_if_there(path));
+        Ok(State { held: digest(held?), ledger: digest(ledger?), log: digest(log?) })
     }
 
-    /// A record belongs to the files where each of them is as before it or as after it.
+    /// A record belongs to the files where each of them is as before it or as after it. A compaction may bring held file
+    /// and ledger of earlier back; but notes are only added, so no note here is unknown to the record.
     fn must_belong(&self, record: &Record, found: &State) -> Outcome<()> {
         let (follows, makes) = (&record.follows, &record.makes);
         let belongs = |of: fn(&State) -> Option<Digest>| of(found) == of(follows) || of(found) == of(makes);
@@ -257,11 +259,18 @@ impl Holding {
             (&self.ledger, belongs(|state| state.ledger)),
             (&self.held, belongs(|state| state.held)),
             (&self.log, belongs(|state| state.log)),
+            (&self.sums, self.notes(record).is_none_or(|(found, made)| made.starts_with(&found))),
         ];
         match files.iter().find(|(_, belongs)| !belongs) {
             Some((stranger, _)) => Err(self.foreign(record, stranger)),
             None => Ok(()),
         }
+    }
+
+    /// The notes of the sums that are here and of those that a record makes, where there are both.
+    fn notes(&self, record: &Record) -> Option<(Vec<u8>, Vec<u8>)> {
+        let notes = |bytes: &[u8]| Sums::parse(bytes, self.summed()).map(|sums| sums.notes);
+        notes(&fs::read(&self.sums).ok()?).zip(notes(record.sums?))
     }
 
     /// The record and the files are not of one state.
@@ -276,14 +285,11 @@ impl Holding {
         Failure::damaged(&self.redo, why)
     }
 
-    /// Lines are only appended from one compaction to the next, and sums with the same notes have seen the same
-    /// compactions: between these the ledger that goes on from the other is the newer one.
+    /// Lines are only appended from one compaction to the next, and each is noted in the sums. So where the notes are the
+    /// same, the ledger that goes on from the other is the newer one.
     fn older_by_lines(&self, record: &Record) -> Option<String> {
         let (now, then) = (fs::read(&self.ledger).ok()?, record.ledger?);
-        let (sums, made) = (self.read_sums().ok()??, Sums::parse(record.sums?, self.summed())?);
-        if sums.notes != made.notes {
-            return None;
-        }
+        self.notes(record).filter(|(found, made)| found == made)?;
         let lines = |bytes: &[u8]| ledger::lines(bytes);
         if now.starts_with(then) && now.len() > then.len() {
             return Some(format!(
