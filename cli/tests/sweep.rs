@@ -318,9 +318,8 @@ fn names_that_are_no_text_are_told_apart() {
 fn what_a_killed_process_left_goes_with_the_holding() {
     let f = folder();
     holding(&f, "a", &KEPT);
-    let strays =
-        [".a.held.0123456789ab.quayrudder", ".a.redo.0123456789AB.quayrudder", ".b.held.0123456789ab.quayrudder"];
-    strays.iter().for_each(|name| f.put(name, "frame"));
+    let strays = ["a.held.0123456789ab", "a.redo.0123456789AB", "a.compacted.0123456789ab", "b.held.0123456789ab"];
+    strays.iter().for_each(|name| f.put(&format!(".{name}.quayrudder"), "frame"));
     f.put("b.lock", "quayrudder 4711\n");
     let own = ["a.held.tmp", ".a.held.mine.quayrudder", "theirs.lock", ".c.txt.0123456789ab.quayrudder"];
     own.iter().for_each(|name| f.put(name, "mine"));
