@@ -7,7 +7,7 @@ use crate::failure::{shown, Failure, Outcome};
 use crate::files;
 use crate::holding::{Change, Contents, Holding};
 use crate::holdings::{accepted, each};
-use crate::ledger::Lent;
+use crate::ledger::{self, Lent};
 use crate::output::Output;
 use serde_json::json;
 use std::time::Duration;
@@ -17,21 +17,29 @@ pub fn compact(output: &mut Output, asked: &Compact, wait: Option<Duration>) -> 
     each(output, &asked.names, wait, &words, |holding, _| compacted(holding, !asked.no_log))
 }
 
+/// Asks first, so that no held file is read for a ledger that stays as it is.
 fn compacted(holding: &Holding, logged: bool) -> Outcome<Said> {
+    let asked = holding.ask_ledger()?;
+    if standing(holding, &asked)?.is_none() {
+        return Ok(already_compact(holding, &asked));
+    }
     let (owned, found) = holding.change()?;
-    let mut lent = Lent::new(found.ledger.clone(), 0);
+    let Some(ledger) = standing(holding, &found.ledger)? else { return Ok(already_compact(holding, &found.ledger)) };
+    let (time, before, after) = (clock::now(), ledger::lines(&found.ledger), ledger::lines(&ledger));
+    let log = if logged { Some(log(holding, &found, &time, &ledger)?) } else { None };
+    let note = format!("# compacted {time} from {before} lines to {after}\n");
+    let notes = found.notes().map(|notes| [notes, note.as_bytes()].concat());
+    let change = Change { ledger: Some(&ledger), log: log.as_deref(), notes: notes.as_deref(), ..Change::default() };
+    owned.commit(found.state, &change)?;
+    Ok(said(holding, (before, after), logged))
+}
+
+/// The lines of a ledger that stand, where others would go.
+fn standing(holding: &Holding, ledger: &[u8]) -> Outcome<Option<Vec<u8>>> {
+    let mut lent = Lent::new(ledger.to_vec(), 0);
     let answer = quayrudder::compact(&mut lent.bytes, lent.lines);
     accepted(holding, answer.refusal, &lent.bytes)?;
-    if answer.lines == lent.lines {
-        return Ok(already_compact(holding, lent.lines));
-    }
-    let (ledger, time) = (lent.used(answer.lines), clock::now());
-    let log = if logged { Some(log(holding, &found, &time, ledger)?) } else { None };
-    let note = format!("# compacted {time} from {} lines to {}\n", lent.lines, answer.lines);
-    let notes = found.notes().map(|notes| [notes, note.as_bytes()].concat());
-    let change = Change { ledger: Some(ledger), log: log.as_deref(), notes: notes.as_deref(), ..Change::default() };
-    owned.commit(found.state, &change)?;
-    Ok(said(holding, (lent.lines, answer.lines), logged))
+    Ok((answer.lines < lent.lines).then(|| lent.used(answer.lines).to_vec()))
 }
 
 /// The log with this compaction in it. A file of its name that is no log of this holding stays.
@@ -43,8 +51,8 @@ fn log(holding: &Holding, found: &Contents, time: &str, ledger: &[u8]) -> Outcom
     Ok(compaction_log::with_entry(found, &holding.name, time, ledger))
 }
 
-fn already_compact(holding: &Holding, lines: u64) -> Said {
-    let name = shown(&holding.name);
+fn already_compact(holding: &Holding, ledger: &[u8]) -> Said {
+    let (name, lines) = (shown(&holding.name), ledger::lines(ledger));
     let text = format!("{name}: already compact, {lines} lines, {lines} standing");
     Said { text, value: json!({"name": name, "already_compact": true, "lines": lines}), counted: "already compact" }
 }

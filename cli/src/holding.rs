@@ -154,6 +154,11 @@ impl Holding {
         }
     }
 
+    /// The ledger, asked for what it says of its held file, which is not read.
+    pub fn ask_ledger(&self) -> Outcome<Vec<u8>> {
+        self.ask(|holding| holding.must_have_held().and_then(|()| holding.read_ledger()))
+    }
+
     /// The ledger, if it is what its sum says.
     pub fn read_ledger(&self) -> Outcome<Vec<u8>> {
         let ledger = files::read(&self.ledger)?;

@@ -191,8 +191,7 @@ fn listed(holding: &Holding, many: bool) -> Outcome<Said> {
 }
 
 pub fn may_purge(output: &mut Output, holding: &Holding, day: Date) -> Outcome<()> {
-    let bytes = holding.ask(|holding| holding.must_have_held().and_then(|()| holding.read_ledger()))?;
-    let (text, value) = purge_answer(holding, &bytes, day)?;
+    let (text, value) = purge_answer(holding, &holding.ask_ledger()?, day)?;
     if value["may_purge"] == false {
         output.status(NO);
     }

@@ -121,8 +121,7 @@ impl Job<'_> {
             // What a record says is settled where the holding goes.
             Kind::Holding if self.removes && lies.redo => Some(Answer::Yes),
             Kind::Holding => {
-                let asked =
-                    self.holding(name).ask(|holding| holding.must_have_held().and_then(|()| holding.read_ledger()));
+                let asked = self.holding(name).ask_ledger();
                 Some(asked.map_or_else(|failure| Answer::failed(&failure), |ledger| self.answer(&ledger)))
             }
         }

@@ -233,7 +233,7 @@ fn a_file_of_another_program_is_neither_overwritten_nor_minded() {
 #[test]
 fn a_log_behind_a_link_is_not_cut_off() {
     let f = nested();
-    f.done("compact a");
+    all(&f, &["compact a", "correct a 9 9", "withdraw a"]);
     fs::rename(f.join("a.compacted"), f.join("elsewhere")).unwrap();
     symlink("elsewhere", f.join("a.compacted")).unwrap();
     for words in ["withdraw a", "compact a", "correct a 1 1"] {
@@ -248,7 +248,7 @@ fn a_log_that_is_not_what_its_sum_says_is_damage() {
     f.done("compact a");
     let (whole, sums) = (f.get("a.compacted"), f.get("a.sha256"));
     let damaged = |part: &str| {
-        for words in ["verify a", "correct a 1 1", "compact a", "keep a 2050-01-01", "withdraw a", "verify . --seal"] {
+        for words in ["verify a", "correct a 1 1", "keep a 2050-01-01", "withdraw a", "verify . --seal"] {
             unchanged(&f, words, 4, part);
         }
         let swept = f.run_on(DUE, "sweep . --delete");
@@ -271,6 +271,20 @@ fn a_log_that_is_not_what_its_sum_says_is_damage() {
     damaged("a.compacted: has no sum in ");
     f.put("a.sha256", sums);
     assert_eq!(f.done("verify a"), "a: held frame, ledger and sums agree, 2 lines, 2 standing\n");
+}
+
+#[test]
+fn nothing_is_compacted_where_a_file_is_not_what_its_sum_says() {
+    let f = nested();
+    for name in ["a.held", "a.ledger"] {
+        let whole = f.get(name);
+        f.put(name, &whole[..whole.len() - 16]);
+        unchanged(&f, "compact a", 4, &format!("{name}: differs from its sum in a.sha256"));
+        f.put(name, whole);
+    }
+    all(&f, &["compact a", "withdraw a"]);
+    f.put("a.compacted", "# quayrudder compaction of another day\n");
+    unchanged(&f, "compact a", 4, "a.compacted: differs from its sum in a.sha256");
 }
 
 #[test]

@@ -464,7 +464,11 @@ fn a_log_is_synced_and_placed_before_the_ledger_changes() {
     f.done("withdraw a");
     let (logged, placed) = (logged.replace(&staged("a.compacted"), ""), placed.replace("rename a.compacted\n", ""));
     assert_eq!(calls(&f, "compact a --no-log"), MARKED.to_string() + &logged + RECORDED + &placed);
-    assert_eq!(calls(&f, "compact a"), "create a.lock");
+    let mut questions = prepared(&f, "compact a");
+    questions.env("FAULT_READS", f.join("reads"));
+    assert!(ran(questions.output().unwrap()).out.starts_with("a: already compact"));
+    let reads = fs::read_to_string(f.join("reads")).unwrap();
+    assert!(reads.contains(" a.ledger\n") && !reads.contains(" a.held\n"), "{reads}");
 }
 
 #[test]

@@ -312,7 +312,7 @@ fn one_flipped_bit_is_found_and_said_of_which_file() {
         bytes
     };
     f.put("a.held", flipped(&held, common::header::LENGTH + 7));
-    for words in ["verify a", "correct a 1 1", "amend a 1", "keep a 2032-01-01", "withdraw a", "compact a"] {
+    for words in ["verify a", "correct a 1 1", "amend a 1", "keep a 2032-01-01", "withdraw a"] {
         unchanged(&f, words, 4, "a.held: differs from its sum in a.sha256. Restore the holding from its copy");
     }
     let swept = f.run_on("2031-11-03", "sweep . --delete");
