@@ -160,6 +160,26 @@ fn a_ledger_whose_lines_all_stand_is_left_as_it_is() {
     unchanged(&f, "compact a", 0, "a: already compact, 1 lines, 1 standing\n");
 }
 
+/// Compacts `a` while another command comes between the question and the lock.
+fn overtaken(f: &Folder, words: &str) -> Ran {
+    let other = format!("{} {words} > /dev/null", env!("CARGO_BIN_EXE_quayrudder"));
+    let mut run = command();
+    run.args(["compact", "a"]).current_dir(f.path()).env("FAULT_RUN", other).env("FAULT_RUN_AT", "create a.lock");
+    ran(run.output().unwrap())
+}
+
+#[test]
+fn what_comes_between_the_question_and_the_lock_counts() {
+    let f = nested();
+    let ran = overtaken(&f, "correct a 9 9");
+    assert_eq!((ran.status, ran.out), (Some(0), COMPACTED.replace("8 lines to 2", "9 lines to 3")));
+    assert!(f.done("list a").contains("line 3 correct 9 69 9\n") && f.done("verify a").contains("3 standing"));
+    let f = nested();
+    let ran = overtaken(&f, "compact a");
+    assert_eq!((ran.status, ran.out.as_str()), (Some(0), "a: already compact, 2 lines, 2 standing\n"));
+    assert_eq!(log(&f).matches("# quayrudder compaction ").count(), 1);
+}
+
 #[test]
 fn a_second_compaction_goes_on_in_the_same_log() {
     let f = nested();
