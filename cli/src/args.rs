@@ -97,6 +97,13 @@ pub enum Command {
         #[command(flatten)]
         names: Names,
     },
+    /// Compact the ledgers of holdings: withdrawals and the lines that they took back go, and NAME.compacted keeps the
+    /// listing before
+    #[command(
+        mut_arg("names", holdings),
+        after_help = "Examples:\n  quayrudder compact lyso1\n  quayrudder compact --below archive"
+    )]
+    Compact(Compact),
     /// List the ledgers of holdings
     #[command(
         mut_arg("names", holdings),
@@ -263,6 +270,15 @@ pub struct Keep {
     /// Take a day before the one that stands, or before today
     #[arg(long)]
     pub shorten: bool,
+}
+
+#[derive(Args)]
+pub struct Compact {
+    #[command(flatten)]
+    pub names: Names,
+    /// Do not keep the listing before: what the lines were is then gone
+    #[arg(long)]
+    pub no_log: bool,
 }
 
 #[derive(Args)]

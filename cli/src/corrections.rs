@@ -92,8 +92,8 @@ impl Draft {
     /// Makes the holding what this is, and gives its last lines.
     pub fn commit(&self, owned: &Owned, lines: usize) -> Outcome<Vec<Line>> {
         let ledger = self.lent.used(self.lent.lines);
-        let change = Change { held: Some(&self.held), ledger: Some(ledger), notes: self.found.notes() };
-        owned.commit(self.found.state, &change)?;
+        let (held, notes) = (Some(self.held.as_slice()), self.found.notes());
+        owned.commit(self.found.state, &Change { held, ledger: Some(ledger), notes, ..Change::default() })?;
         let mut lines: Vec<Line> = ledger::backwards(&ledger::listing(ledger)).take(lines).collect();
         lines.reverse();
         Ok(lines)

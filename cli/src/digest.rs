@@ -24,11 +24,12 @@ impl Digest {
     }
 }
 
-/// Held file and ledger at one time. A file that is missing has no digest.
+/// Held file, ledger and the log of compactions at one time. A file that is missing has no digest.
 #[derive(Clone, Copy, Debug, Default, PartialEq, Eq)]
 pub struct State {
     pub held: Option<Digest>,
     pub ledger: Option<Digest>,
+    pub log: Option<Digest>,
 }
 
 pub fn hex(bytes: &[u8]) -> String {

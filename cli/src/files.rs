@@ -4,7 +4,7 @@ use rustix::fs::{cwd, renameat_with, RenameFlags};
 use rustix::io::Errno;
 use std::ffi::{OsStr, OsString};
 use std::fs::{self, DirBuilder, File, Permissions};
-use std::io::{self, ErrorKind, Write};
+use std::io::{self, ErrorKind, Read, Write};
 use std::os::unix::ffi::OsStrExt;
 use std::os::unix::fs::{fchown, DirBuilderExt, MetadataExt, PermissionsExt};
 use std::path::{Path, PathBuf};
@@ -24,6 +24,13 @@ pub fn read_if_there(path: &Path) -> Outcome<Option<Vec<u8>>> {
         Err(error) if error.kind() == ErrorKind::NotFound => Ok(None),
         found => found.map(Some).map_err(Failure::machine(path, "read")),
     }
+}
+
+/// Is this a file, and are these its first bytes? Other programs have files with endings like ours.
+pub fn starts_with(path: &Path, start: &[u8]) -> bool {
+    let mut found = vec![0; start.len()];
+    let is_file = fs::metadata(path).is_ok_and(|file| file.is_file());
+    is_file && File::open(path).and_then(|mut file| file.read_exact(&mut found)).is_ok() && found == start
 }
 
 /// A file's length; none where it cannot be had.

@@ -1,6 +1,8 @@
-//! A holding: NAME.held, the buffer with its room; NAME.ledger, 16 bytes for each line; NAME.sha256, the sums of both;
-//! and, while a change is being made, NAME.lock and NAME.redo.
+//! A holding: NAME.held, the buffer with its room; NAME.ledger, 16 bytes for each line; NAME.compacted, the log of the
+//! ledger's compactions, if there were any; NAME.sha256, the sums of all of them; and, while a change is being made,
+//! NAME.lock and NAME.redo.
 use crate::clock::time_text;
+use crate::compaction_log;
 use crate::digest::{Digest, State};
 use crate::failure::{shown, Failure, Outcome};
 use crate::files::{self, Access, Staged};
@@ -18,6 +20,7 @@ pub struct Holding {
     pub name: PathBuf,
     pub held: PathBuf,
     pub ledger: PathBuf,
+    pub log: PathBuf,
     pub sums: PathBuf,
     pub redo: PathBuf,
     pub lock: PathBuf,
@@ -29,6 +32,7 @@ pub struct Holding {
 pub struct Contents {
     pub held: Vec<u8>,
     pub ledger: Vec<u8>,
+    pub log: Option<Vec<u8>>,
     pub sums: Option<Sums>,
     pub state: State,
 }
@@ -38,6 +42,7 @@ pub struct Contents {
 pub struct Change<'a> {
     pub held: Option<&'a [u8]>,
     pub ledger: Option<&'a [u8]>,
+    pub log: Option<&'a [u8]>,
     pub notes: Option<&'a [u8]>,
 }
 
@@ -62,8 +67,8 @@ impl Holding {
     /// The holding of just this name.
     pub fn exactly(name: &Path, wait: Option<Duration>) -> Holding {
         let file = |ending| files::with_ending(name, ending);
-        let [held, ledger, sums] = [".held", ".ledger", ".sha256"].map(file);
-        Holding { name: name.into(), held, ledger, sums, redo: file(".redo"), lock: file(".lock"), wait }
+        let [held, ledger, log, sums] = [".held", ".ledger", ".compacted", ".sha256"].map(file);
+        Holding { name: name.into(), held, ledger, log, sums, redo: file(".redo"), lock: file(".lock"), wait }
     }
 
     /// Reads for a question, while nobody changes the holding. An unfinished change is finished first.
@@ -105,7 +110,7 @@ impl Holding {
     /// For a new holding of this name.
     pub fn create(&self) -> Outcome<Owned<'_>> {
         let owned = self.own()?;
-        for path in [&self.held, &self.ledger, &self.sums] {
+        for path in [&self.held, &self.ledger, &self.log, &self.sums] {
             if files::exists(path)? {
                 owned.leave_no_lock();
                 return Err(Failure::declined(path, "exists already and is kept. Give the new holding another name"));
@@ -125,7 +130,7 @@ impl Holding {
     pub fn lock_alone(&self) -> Outcome<Owned<'_>> {
         let owned = Owned { holding: self, lock: locks::exclusive(&self.lock, self.wait)? };
         if locks::is_marked(&owned.lock) {
-            files::remove_leftovers(&[&self.held, &self.ledger, &self.sums, &self.redo])?;
+            files::remove_leftovers(&[&self.held, &self.ledger, &self.log, &self.sums, &self.redo])?;
             locks::unmark(&owned.lock);
         }
         Ok(owned)
@@ -149,47 +154,84 @@ impl Holding {
         }
     }
 
+    /// The ledger, asked for what it says of its held file, which is not read.
+    pub fn ask_ledger(&self) -> Outcome<Vec<u8>> {
+        self.ask(|holding| holding.must_have_held().and_then(|()| holding.read_ledger()))
+    }
+
     /// The ledger, if it is what its sum says.
     pub fn read_ledger(&self) -> Outcome<Vec<u8>> {
         let ledger = files::read(&self.ledger)?;
         if let Some(sums) = self.read_sums()? {
-            let digest = Digest::of(&ledger);
-            self.must_match(&[(&self.ledger, sums.ledger, digest)])?;
+            self.must_match(&sums, &State { ledger: Some(Digest::of(&ledger)), ..State::default() })?;
         }
         Ok(ledger)
     }
 
-    /// Both files, if they are what their sums say.
+    /// All files, if they are what their sums say.
     pub fn read_whole(&self) -> Outcome<Contents> {
         self.must_have_held()?;
         let (held, ledger) = (files::read(&self.held)?, files::read(&self.ledger)?);
-        let digests = (Digest::of(&held), Digest::of(&ledger));
         let sums = self.read_sums()?;
+        let log = self.read_log(sums.as_ref())?;
+        let digest = |bytes: &Vec<u8>| Digest::of(bytes);
+        let state = State { held: Some(digest(&held)), ledger: Some(digest(&ledger)), log: log.as_ref().map(digest) };
         if let Some(sums) = &sums {
-            self.must_match(&[(&self.held, sums.held, digests.0), (&self.ledger, sums.ledger, digests.1)])?;
+            self.must_match(sums, &state)?;
         }
-        let state = State { held: Some(digests.0), ledger: Some(digests.1) };
-        Ok(Contents { held, ledger, sums, state })
+        Ok(Contents { held, ledger, log, sums, state })
     }
 
     /// The same, for files that are to be replaced: a link would be cut off from what it points to.
     pub fn read_plain(&self) -> Outcome<Contents> {
         [&self.held, &self.ledger, &self.sums].into_iter().try_for_each(|path| must_be_plain(path))?;
-        self.read_whole()
+        let found = self.read_whole()?;
+        if found.log.is_some() {
+            must_be_plain(&self.log)?;
+        }
+        Ok(found)
     }
 
     fn read_sums(&self) -> Outcome<Option<Sums>> {
         let Some(bytes) = files::read_if_there(&self.sums)? else { return Ok(None) };
-        let sums = Sums::parse(&bytes, &self.held, &self.ledger);
-        let why = "does not have the sums of this holding's two files. Look whether they are whole; \
+        let why = "does not have the sums of this holding's files. Look whether they are whole; \
                    then move it to a safe place and make the sums anew with `quayrudder verify --seal`";
-        sums.map(Some).ok_or_else(|| Failure::damaged(&self.sums, why))
+        Sums::parse(&bytes, self.summed()).map(Some).ok_or_else(|| Failure::damaged(&self.sums, why))
+    }
+
+    /// The files that the sums are of.
+    fn summed(&self) -> [&Path; 3] {
+        [&self.held, &self.ledger, &self.log]
+    }
+
+    /// The log, where the holding has one. Sums say whether it has; without them the log itself does.
+    fn read_log(&self, sums: Option<&Sums>) -> Outcome<Option<Vec<u8>>> {
+        let summed = sums.map(|sums| sums.log.is_some());
+        let found = match summed {
+            Some(true) => files::read_if_there(&self.log)?,
+            _ => compaction_log::read(&self.log)?,
+        };
+        let name = shown(&self.sums);
+        let why = match (summed, &found) {
+            (Some(true), None) => format!(
+                "is missing, and {name} has its sum. Restore the holding from its copy; where no copy has it, move \
+                 {name} to a safe place and make the sums anew with `quayrudder verify --seal`"
+            ),
+            (Some(false), Some(_)) => format!(
+                "has no sum in {name}, so this log is of another state than the holding. Restore all files from one \
+                 copy, or move the log to a safe place"
+            ),
+            _ => return Ok(found),
+        };
+        Err(Failure::damaged(&self.log, why))
     }
 
     /// Says which of these files is not what its sum says.
-    fn must_match(&self, files: &[(&PathBuf, [u8; 32], Digest)]) -> Outcome<()> {
-        let differs: Vec<&PathBuf> =
-            files.iter().filter(|(_, sum, found)| *sum != found.sha256).map(|(path, ..)| *path).collect();
+    fn must_match(&self, sums: &Sums, found: &State) -> Outcome<()> {
+        let summed = [Some(sums.held), Some(sums.ledger), sums.log];
+        let files = self.summed().into_iter().zip(summed).zip([found.held, found.ledger, found.log]);
+        let differs = files.filter(|((_, sum), found)| found.is_some_and(|found| Some(found.sha256) != *sum));
+        let differs: Vec<&Path> = differs.map(|((path, _), _)| path).collect();
         let sums = shown(&self.sums);
         match differs[..] {
             [] => Ok(()),
@@ -205,23 +247,35 @@ impl Holding {
         }
     }
 
-    /// Held file and ledger as they are now.
-    pub fn found(&self) -> Outcome<State> {
-        let digest = |path| files::read_if_there(path).map(|found| found.map(|bytes| Digest::of(&bytes)));
-        Ok(State { held: digest(&self.held)?, ledger: digest(&self.ledger)? })
+    /// The files that a record is about as they are now.
+    pub fn found(&self, record: &Record) -> Outcome<State> {
+        let digest = |found: Option<Vec<u8>>| found.map(|bytes| Digest::of(&bytes));
+        let log = if record.has_log() { files::read_if_there(&self.log) } else { compaction_log::read(&self.log) };
+        let [held, ledger] = [&self.held, &self.ledger].map(|path| files::read_if_there(path));
+        Ok(State { held: digest(held?), ledger: digest(ledger?), log: digest(log?) })
     }
 
-    /// A record belongs to the files where each of them is as before it or as after it.
+    /// A record belongs to the files where each of them is as before it or as after it. A compaction may bring held file
+    /// and ledger of earlier back; but notes are only added, so no note here is unknown to the record.
     fn must_belong(&self, record: &Record, found: &State) -> Outcome<()> {
         let (follows, makes) = (&record.follows, &record.makes);
-        let held = found.held == follows.held || found.held == makes.held;
-        let ledger = found.ledger == follows.ledger || found.ledger == makes.ledger;
-        let stranger = match (held, ledger) {
-            (true, true) => return Ok(()),
-            (_, false) => &self.ledger,
-            (false, true) => &self.held,
-        };
-        Err(self.foreign(record, stranger))
+        let belongs = |of: fn(&State) -> Option<Digest>| of(found) == of(follows) || of(found) == of(makes);
+        let files = [
+            (&self.ledger, belongs(|state| state.ledger)),
+            (&self.held, belongs(|state| state.held)),
+            (&self.log, belongs(|state| state.log)),
+            (&self.sums, self.notes(record).is_none_or(|(found, made)| made.starts_with(&found))),
+        ];
+        match files.iter().find(|(_, belongs)| !belongs) {
+            Some((stranger, _)) => Err(self.foreign(record, stranger)),
+            None => Ok(()),
+        }
+    }
+
+    /// The notes of the sums that are here and of those that a record makes, where there are both.
+    fn notes(&self, record: &Record) -> Option<(Vec<u8>, Vec<u8>)> {
+        let notes = |bytes: &[u8]| Sums::parse(bytes, self.summed()).map(|sums| sums.notes);
+        notes(&fs::read(&self.sums).ok()?).zip(notes(record.sums?))
     }
 
     /// The record and the files are not of one state.
@@ -236,9 +290,11 @@ impl Holding {
         Failure::damaged(&self.redo, why)
     }
 
-    /// Lines are only ever appended, so the ledger that goes on from the other is the newer one.
+    /// Lines are only appended from one compaction to the next, and each is noted in the sums. So where the notes are the
+    /// same, the ledger that goes on from the other is the newer one.
     fn older_by_lines(&self, record: &Record) -> Option<String> {
         let (now, then) = (fs::read(&self.ledger).ok()?, record.ledger?);
+        self.notes(record).filter(|(found, made)| found == made)?;
         let lines = |bytes: &[u8]| ledger::lines(bytes);
         if now.starts_with(then) && now.len() > then.len() {
             return Some(format!(
@@ -265,6 +321,18 @@ impl Holding {
     }
 }
 
+impl Change<'_> {
+    /// The state that comes of this one.
+    fn makes(&self, follows: &State) -> State {
+        let digest = |new: Option<&[u8]>, old| new.map(Digest::of).or(old);
+        State {
+            held: digest(self.held, follows.held),
+            ledger: digest(self.ledger, follows.ledger),
+            log: digest(self.log, follows.log),
+        }
+    }
+}
+
 impl Contents {
     /// Where the holding has sums, a change writes them anew.
     pub fn notes(&self) -> Option<&[u8]> {
@@ -277,23 +345,23 @@ impl Owned<'_> {
     /// its name.
     pub fn commit(&self, follows: State, change: &Change) -> Outcome<()> {
         let holding = self.holding;
-        let digest = |new: Option<&[u8]>, old| new.map(Digest::of).or(old);
-        let makes = State { held: digest(change.held, follows.held), ledger: digest(change.ledger, follows.ledger) };
+        let makes = change.makes(&follows);
         let sums = change.notes.and_then(|notes| self.sums_of(makes, notes));
-        let (held, ledger, sums) = (change.held, change.ledger, sums.as_deref());
-        let record = Record { follows, makes, held, ledger, sums, into: None };
+        let Change { held, ledger, log, .. } = *change;
+        let record = Record { follows, makes, held, ledger, sums: sums.as_deref(), into: None, log };
         locks::mark(&self.lock);
         let staged = self.stage(&record).and_then(|staged| self.record(&record).map(|()| staged));
         let staged = staged.map_err(|failure| failure.so("The holding is as it was before."))?;
-        let put = if follows == State::default() { Staged::put_new } else { Staged::put };
+        let is_new = |path: &Path| follows == State::default() || follows.log.is_none() && path == holding.log;
         files::sync_folder_of(&holding.redo)
-            .and_then(|()| self.put(staged, put))
+            .and_then(|()| self.put(staged, |one| if is_new(one.path()) { one.put_new() } else { one.put() }))
             .map_err(|failure| failure.so("The change is recorded, and the next command on this holding finishes it."))
     }
 
     fn sums_of(&self, state: State, notes: &[u8]) -> Option<Vec<u8>> {
-        let sums = Sums { held: state.held?.sha256, ledger: state.ledger?.sha256, notes: notes.to_vec() };
-        Some(sums.bytes(&self.holding.held, &self.holding.ledger))
+        let [held, ledger, log] = [state.held, state.ledger, state.log].map(|file| file.map(|digest| digest.sha256));
+        let sums = Sums { held: held?, ledger: ledger?, log, notes: notes.to_vec() };
+        Some(sums.bytes(self.holding.summed()))
     }
 
     /// Puts the record in place. Where this fails before it has its name, nothing has changed.
@@ -308,7 +376,7 @@ impl Owned<'_> {
         let holding = self.holding;
         let Some(bytes) = files::read_if_there(&holding.redo)? else { return Ok(()) };
         let record = redo::read(&holding.redo, &bytes)?;
-        let found = holding.found()?;
+        let found = holding.found(&record)?;
         let done = match record.is_removal() {
             true => self.give_up(&record, &found).map(|()| "a purge that had been interrupted is given up"),
             false => self.finish(&record, &found).map(|()| "a change that had been interrupted is finished"),
@@ -326,19 +394,22 @@ impl Owned<'_> {
             .map_err(|failure| failure.so("An earlier change is recorded and unfinished; nothing else was done."))
     }
 
+    /// The log comes first, so that no line goes before it is logged.
     fn stage(&self, record: &Record) -> Outcome<Vec<Staged>> {
-        let Holding { held, ledger, sums, .. } = self.holding;
-        let sums_like = if files::exists(sums)? { Access::of(&[sums]) } else { Access::of(&[held, ledger]) };
-        let contents = [
-            (held, record.held, Access::of(&[held])),
-            (ledger, record.ledger, Access::of(&[ledger])),
-            (sums, record.sums, sums_like),
-        ];
-        let given = contents.into_iter().filter_map(|(path, bytes, access)| bytes.map(|bytes| (path, bytes, access)));
-        given.map(|(path, bytes, access)| files::stage(path, &[bytes], access)).collect()
+        let Holding { held, ledger, log, sums, .. } = self.holding;
+        let contents = [(log, record.log), (held, record.held), (ledger, record.ledger), (sums, record.sums)];
+        let given = contents.into_iter().filter_map(|(path, bytes)| bytes.map(|bytes| (path, bytes)));
+        given.map(|(path, bytes)| files::stage(path, &[bytes], self.access(path)?)).collect()
     }
 
-    fn put(&self, staged: Vec<Staged>, put: fn(Staged) -> Outcome<()>) -> Outcome<()> {
+    /// A file stays as strict as it is. The log and the sums start as strict as held file and ledger together.
+    fn access(&self, path: &PathBuf) -> Outcome<Access> {
+        let Holding { held, ledger, .. } = self.holding;
+        let is_added = path != held && path != ledger && !files::exists(path)?;
+        Ok(if is_added { Access::of(&[held, ledger]) } else { Access::of(&[path]) })
+    }
+
+    fn put(&self, staged: Vec<Staged>, put: impl Fn(Staged) -> Outcome<()>) -> Outcome<()> {
         let mut placed = Vec::new();
         for one in staged {
             let path = one.path().to_path_buf();
@@ -351,7 +422,7 @@ impl Owned<'_> {
         Ok(())
     }
 
-    /// Somebody else's file has come into the way of a new holding: what was placed beside it goes again.
+    /// Somebody else's file has come into the way of a new holding or a new log: what was placed beside it goes again.
     fn take_back(&self, failure: &Failure, placed: &[PathBuf]) {
         if matches!(failure, Failure::Declined { .. }) {
             placed.iter().chain([&self.holding.redo]).for_each(|path| drop(files::remove(path)));

@@ -21,7 +21,7 @@ const LISTED: &str = "listed";
 
 /// Works on the holdings that are named or lie below folders. One that is named twice is not changed: an answer would
 /// depend on which came first.
-fn each(
+pub fn each(
     output: &mut Output,
     asked: &Names,
     wait: Option<Duration>,
@@ -113,7 +113,8 @@ fn withdrawn(holding: &Holding) -> Outcome<Said> {
     let answer = room::lend(&mut found.held, |held| quayrudder::withdraw(held, &mut lent.bytes, lent.lines));
     accepted_or(holding, answer.refusal, &lent.bytes, withdraw_sentence)?;
     let ledger = lent.used(answer.lines);
-    owned.commit(found.state, &Change { held: Some(&found.held), ledger: Some(ledger), notes: found.notes() })?;
+    let change = Change { held: Some(&found.held), ledger: Some(ledger), notes: found.notes(), ..Change::default() };
+    owned.commit(found.state, &change)?;
     let taken = ledger::last_standing(&ledger::listing(&found.ledger));
     let (mut text, mut value) = withdrawal(holding, answer.lines, taken.as_ref());
     if let Some(Line { entry: Entry::Keep { .. }, .. }) = taken {
@@ -190,8 +191,7 @@ fn listed(holding: &Holding, many: bool) -> Outcome<Said> {
 }
 
 pub fn may_purge(output: &mut Output, holding: &Holding, day: Date) -> Outcome<()> {
-    let bytes = holding.ask(|holding| holding.must_have_held().and_then(|()| holding.read_ledger()))?;
-    let (text, value) = purge_answer(holding, &bytes, day)?;
+    let (text, value) = purge_answer(holding, &holding.ask_ledger()?, day)?;
     if value["may_purge"] == false {
         output.status(NO);
     }

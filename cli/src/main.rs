@@ -4,6 +4,8 @@
 mod args;
 mod batch;
 mod clock;
+mod compaction;
+mod compaction_log;
 mod completions;
 mod corrections;
 mod digest;
@@ -96,6 +98,7 @@ fn run(output: &mut Output, command: Command, seconds: Option<u32>) -> Outcome<(
         Command::Amend { name, count } => corrections::amend(output, &Holding::named(&name, wait)?, count),
         Command::Keep(asked) => holdings::keep(output, &asked, wait),
         Command::Withdraw { names } => holdings::withdraw(output, &names, wait),
+        Command::Compact(asked) => compaction::compact(output, &asked, wait),
         Command::List { names } => holdings::list(output, &names, wait),
         Command::MayPurge { name, day } => holdings::may_purge(output, &Holding::named(&name, wait)?, day),
         Command::Verify(asked) => verify::verify(output, &asked, wait),

@@ -69,7 +69,7 @@ impl Opened {
         self.held.resize(self.answer.length as usize + asked.room as usize, 0);
         let owned = holding.create()?;
         let notes = sums::frame_note(&self.sha256, frame);
-        let change = Change { held: Some(&self.held), ledger: Some(&[]), notes: Some(&notes) };
+        let change = Change { held: Some(&self.held), ledger: Some(&[]), notes: Some(&notes), ..Change::default() };
         owned.commit(State::default(), &change).inspect_err(|_| owned.leave_no_lock())?;
         let (name, form) = (shown(&holding.name), frames::form_text(asked.form.width, asked.form.underflow));
         let (OpenAnswer { rows, columns, length, .. }, room) = (self.answer, asked.room);

@@ -1,8 +1,9 @@
 //! The log of a sweep: who took which holding away, when, on which ground, and what it was.
 use crate::clock;
-use crate::digest::{Digest, State};
+use crate::digest::Digest;
 use crate::failure::{shown, Failure, Outcome};
 use crate::files;
+use crate::holding::Contents;
 use crate::ledger;
 use std::fs::{File, OpenOptions};
 use std::io::Write;
@@ -24,15 +25,18 @@ impl Log {
     }
 
     /// What is about to be done, the line that decides it, and all that the log will have of the holding.
-    pub fn before(&mut self, what: &str, name: &Path, ledger: &[u8], state: &State) -> Outcome<()> {
-        let listing = ledger::listing(ledger);
+    pub fn before(&mut self, what: &str, name: &Path, found: &Contents) -> Outcome<()> {
+        let (listing, state) = (ledger::listing(&found.ledger), &found.state);
         let decided = match ledger::keep_line(&listing) {
             Some((line, date)) => format!("decided by line {line}: kept until {date}"),
             None => "decided by no line".to_string(),
         };
-        let quoted: String = listing.lines().map(|line| format!("  | {line}\n")).collect();
         let (held, ledger) = (file_text(&state.held), file_text(&state.ledger));
-        self.write(name, &format!("{what}\n  {decided}\n  held {held}\n  ledger {ledger}\n{quoted}"))
+        let log = found.log.as_ref().map_or(String::new(), |log| {
+            format!("  compacted {}\n{}", file_text(&state.log), quoted(&String::from_utf8_lossy(log)))
+        });
+        let listing = quoted(&listing);
+        self.write(name, &format!("{what}\n  {decided}\n  held {held}\n  ledger {ledger}\n{listing}{log}"))
     }
 
     pub fn after(&mut self, what: &str, name: &Path) -> Outcome<()> {
@@ -49,12 +53,18 @@ impl Log {
     }
 }
 
-fn file_text(digest: &Option<Digest>) -> String {
+/// Lines of another text, each behind a bar.
+fn quoted(text: &str) -> String {
+    text.lines().map(|line| format!("  | {line}\n")).collect()
+}
+
+/// A file's length and sum.
+pub fn file_text(digest: &Option<Digest>) -> String {
     digest.map_or("missing".into(), |digest| format!("{} bytes sha256 {}", digest.length, digest.hex()))
 }
 
 /// The user in whose right the process acts, and the machine.
-fn who() -> String {
+pub fn who() -> String {
     let number = users::get_effective_uid();
     let name = users::get_user_by_uid(number).map(|user| shown(Path::new(user.name())));
     let machine = rustix::process::uname().nodename().to_string_lossy().into_owned();

@@ -1,6 +1,6 @@
 //! The record of a change that touches several files: all of them become what it says, or none.
 //!
-//! It names the state of held file and ledger that it follows and the one that it makes. It is written and synced under
+//! It names the state of held file, ledger and log that it follows and the one that it makes. It is written and synced under
 //! another name and then renamed into place. From then on the change is made: whoever finds the record with the files in
 //! one of its two states puts them in place and removes it. Doing that again changes nothing.
 use crate::digest::{from_hex, Digest, State};
@@ -9,10 +9,12 @@ use std::ffi::OsStr;
 use std::os::unix::ffi::OsStrExt;
 use std::path::{Path, PathBuf};
 
-const MARK: &str = "quayrudder redo 2";
+const MARK: &str = "quayrudder redo 3";
+/// The record of a version that knows no log: the same without its digests and its part.
+const MARK_WITHOUT_LOG: &str = "quayrudder redo 2";
 /// What every version's record starts with.
 pub const START: &[u8] = b"quayrudder redo ";
-const PARTS: usize = 4;
+const PARTS: usize = 5;
 
 #[derive(Clone, Debug, PartialEq, Eq)]
 pub struct Record<'a> {
@@ -24,30 +26,38 @@ pub struct Record<'a> {
     pub sums: Option<&'a [u8]>,
     /// The holding's name in the folder that it is moved into.
     pub into: Option<PathBuf>,
+    pub log: Option<&'a [u8]>,
 }
 
 impl<'a> Record<'a> {
     /// The record of a holding that is deleted, or moved.
     pub fn of_removal(follows: State, into: Option<PathBuf>) -> Record<'a> {
-        Record { follows, makes: State::default(), held: None, ledger: None, sums: None, into }
+        Record { follows, makes: State::default(), held: None, ledger: None, sums: None, into, log: None }
     }
 
     pub fn is_removal(&self) -> bool {
         self.makes == State::default()
     }
 
+    /// Has the holding a log, before or after?
+    pub fn has_log(&self) -> bool {
+        self.follows.log.or(self.makes.log).is_some()
+    }
+
     /// The record's bytes, part by part.
     pub fn write(&self, out: impl FnOnce(&[&[u8]]) -> Outcome<()>) -> Outcome<()> {
         let into = self.into.as_ref().map(|path| path.as_os_str().as_bytes());
-        let parts = [self.held, self.ledger, self.sums, into];
+        let parts = [self.held, self.ledger, self.sums, into, self.log];
         let lengths = parts.map(|part| part.map_or("-".into(), |bytes| bytes.len().to_string())).join(" ");
-        let pair = |first: &Option<Digest>, second: &Option<Digest>| format!("{} {}", text(first), text(second));
-        let held = pair(&self.follows.held, &self.makes.held);
-        let ledger = pair(&self.follows.ledger, &self.makes.ledger);
-        let head = format!("{MARK}\nheld {held}\nledger {ledger}\nparts {lengths}\n\n");
-        let [first, second, third, fourth] = parts.map(Option::unwrap_or_default);
-        let body = [head.as_bytes(), first, second, third, fourth];
-        out(&[body[0], body[1], body[2], body[3], body[4], &Digest::of_parts(&body).sha256])
+        let pair =
+            |of: fn(&State) -> Option<Digest>| format!("{} {}", text(&of(&self.follows)), text(&of(&self.makes)));
+        let (held, ledger, log) = (pair(|state| state.held), pair(|state| state.ledger), pair(|state| state.log));
+        let head = format!("{MARK}\nheld {held}\nledger {ledger}\nlog {log}\nparts {lengths}\n\n");
+        let contents = parts.map(Option::unwrap_or_default);
+        let mut body = [&[head.as_bytes()], contents.as_slice()].concat();
+        let sum = Digest::of_parts(&body).sha256;
+        body.push(&sum);
+        out(&body)
     }
 }
 
@@ -72,12 +82,24 @@ pub fn parse(bytes: &[u8]) -> Option<Record<'_>> {
     }
     let end = body.windows(2).position(|pair| pair == b"\n\n")?;
     let head: Vec<&str> = std::str::from_utf8(&body[..end]).ok()?.split('\n').collect();
-    let [MARK, held, ledger, parts] = head[..] else { return None };
-    let (held, ledger) = (digests(held.strip_prefix("held ")?)?, digests(ledger.strip_prefix("ledger ")?)?);
-    let [new_held, new_ledger, sums, into] = cut(&body[end + 2..], parts.strip_prefix("parts ")?)?;
-    let (follows, makes) = (State { held: held.0, ledger: ledger.0 }, State { held: held.1, ledger: ledger.1 });
+    let (held, ledger, log, parts) = match head[..] {
+        [MARK, held, ledger, log, parts] => (held, ledger, log, parts.to_string()),
+        [MARK_WITHOUT_LOG, held, ledger, parts] => (held, ledger, "log - -", format!("{parts} -")),
+        _ => return None,
+    };
+    let (follows, makes) = states(held, ledger, log)?;
+    let [held, ledger, sums, into, log] = cut(&body[end + 2..], parts.strip_prefix("parts ")?)?;
     let into = into.map(|bytes| PathBuf::from(OsStr::from_bytes(bytes)));
-    Some(Record { follows, makes, held: new_held, ledger: new_ledger, sums, into })
+    Some(Record { follows, makes, held, ledger, sums, into, log })
+}
+
+/// The state before and the one after, by the lines of the three files.
+fn states(held: &str, ledger: &str, log: &str) -> Option<(State, State)> {
+    let held = digests(held.strip_prefix("held ")?)?;
+    let ledger = digests(ledger.strip_prefix("ledger ")?)?;
+    let log = digests(log.strip_prefix("log ")?)?;
+    let follows = State { held: held.0, ledger: ledger.0, log: log.0 };
+    Some((follows, State { held: held.1, ledger: ledger.1, log: log.1 }))
 }
 
 /// A digest is its length, a colon and its sum; a dash stands for a file that is missing.
@@ -116,9 +138,9 @@ mod tests {
 
     fn record<'a>(held: Option<&'a [u8]>) -> Record<'a> {
         let digest = |bytes: &[u8]| Some(Digest::of(bytes));
-        let follows = State { held: None, ledger: digest(b"old") };
-        let makes = State { held: digest(b"frame"), ledger: digest(b"new") };
-        Record { follows, makes, held, ledger: Some(b"new"), sums: Some(b"\n\n"), into: None }
+        let follows = State { held: None, ledger: digest(b"old"), log: None };
+        let makes = State { held: digest(b"frame"), ledger: digest(b"new"), log: digest(b"# log") };
+        Record { follows, makes, held, ledger: Some(b"new"), sums: Some(b"\n\n"), into: None, log: Some(b"# log") }
     }
 
     fn written(record: &Record) -> Vec<u8> {
@@ -137,6 +159,17 @@ mod tests {
         for record in [record(None), record(Some(b"frame")), record(Some(b"")), moved] {
             assert_eq!(parse(&written(&record)), Some(record));
         }
+    }
+
+    #[test]
+    fn a_record_of_a_version_that_knows_no_log_is_read() {
+        let old = Record { log: None, makes: State { log: None, ..record(None).makes }, ..record(None) };
+        let bytes = written(&old);
+        let head = String::from_utf8_lossy(&bytes[..bytes.len() - 32]).replace("redo 3\n", "redo 2\n");
+        let body = head.replace("log - -\n", "").replace(" - -\n\n", " -\n\n");
+        let bytes = [body.as_bytes(), &Digest::of(body.as_bytes()).sha256].concat();
+        assert!(body.starts_with("quayrudder redo 2\nheld - ") && body.contains("\nparts - 3 2 -\n\nnew"), "{body}");
+        assert_eq!(parse(&bytes), Some(old));
     }
 
     #[test]

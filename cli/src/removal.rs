@@ -15,6 +15,8 @@ pub struct Interrupted {
     pub into: Option<PathBuf>,
     /// The held file, while the ledger that belongs to it is still here.
     held: Option<Digest>,
+    /// Goes a log with them?
+    log: bool,
 }
 
 impl Holding {
@@ -37,13 +39,13 @@ impl Owned<'_> {
         let holding = self.holding;
         let Some(bytes) = files::read_if_there(&holding.redo)? else { return Ok(None) };
         let record = redo::read(&holding.redo, &bytes)?;
-        let found = holding.found()?;
+        let found = holding.found(&record)?;
         if !record.is_removal() || found == record.follows {
             return Ok(None);
         }
         self.must_be_partly_gone(&record, &found)?;
         let held = found.ledger.and(record.follows.held);
-        Ok(Some(Interrupted { into: record.into, held }))
+        Ok(Some(Interrupted { log: record.has_log(), into: record.into, held }))
     }
 
     fn must_be_partly_gone(&self, record: &Record, found: &State) -> Outcome<()> {
@@ -81,7 +83,7 @@ impl Owned<'_> {
         locks::mark(&self.lock);
         self.record(&Record::of_removal(follows, into.clone()))?;
         files::sync_folder_of(&holding.redo)
-            .and_then(|()| self.take_away(into.as_deref()))
+            .and_then(|()| self.take_away(into.as_deref(), follows.log.is_some()))
             .inspect_err(|_| self.forget_if_whole())
     }
 
@@ -112,17 +114,20 @@ impl Owned<'_> {
             }
         }
         locks::mark(&self.lock);
-        self.take_away(removal.into.as_deref())
+        self.take_away(removal.into.as_deref(), removal.log)
     }
 
     /// The lock file, which goes last, is marked by then: left alone it is known as one of a holding.
-    fn take_away(&self, into: Option<&Path>) -> Outcome<()> {
+    fn take_away(&self, into: Option<&Path>, log: bool) -> Outcome<()> {
         let holding = self.holding;
         let target = into.map(|name| Holding::exactly(name, None));
         let target = target.as_ref();
         take(&holding.held, target.map(|to| &to.held))?;
         sync_both(holding, target)?;
         take(&holding.sums, target.map(|to| &to.sums))?;
+        if log {
+            take(&holding.log, target.map(|to| &to.log))?;
+        }
         take(&holding.ledger, target.map(|to| &to.ledger))?;
         sync_both(holding, target)?;
         files::remove(&holding.redo)?;
@@ -160,7 +165,7 @@ fn sync_both(holding: &Holding, target: Option<&Holding>) -> Outcome<()> {
 }
 
 fn must_be_free(target: &Holding) -> Outcome<()> {
-    for path in [&target.held, &target.ledger, &target.sums, &target.redo] {
+    for path in [&target.held, &target.ledger, &target.log, &target.sums, &target.redo] {
         if files::exists(path)? {
             return Err(Failure::declined(path, "exists already and is kept. Sweep into another folder"));
         }

@@ -1,4 +1,4 @@
-//! NAME.sha256: the sums of a holding's two files, as sha256sum writes and checks them, and notes behind a `#`.
+//! NAME.sha256: the sums of a holding's files, as sha256sum writes and checks them, and notes behind a `#`.
 use crate::digest::{from_hex, hex};
 use std::path::Path;
 
@@ -6,15 +6,17 @@ use std::path::Path;
 pub struct Sums {
     pub held: [u8; 32],
     pub ledger: [u8; 32],
+    /// That of the log of compactions, where there is one.
+    pub log: Option<[u8; 32]>,
     /// The lines that sha256sum passes over, each with its end.
     pub notes: Vec<u8>,
 }
 
 impl Sums {
-    /// Takes a sums file apart: each of the two files has one line, and there is no other.
-    pub fn parse(bytes: &[u8], held: &Path, ledger: &Path) -> Option<Sums> {
-        let (mut sums, mut notes) = ([None; 2], Vec::new());
-        let names = [file_name(held), file_name(ledger)];
+    /// Takes the sums of held file, ledger and log apart: each has one line, the log may have none, and there is no other.
+    pub fn parse(bytes: &[u8], files: [&Path; 3]) -> Option<Sums> {
+        let (mut sums, mut notes) = ([None; 3], Vec::new());
+        let names = files.map(file_name);
         for line in bytes.strip_suffix(b"\n")?.split(|byte| *byte == b'\n') {
             if line.starts_with(b"#") {
                 notes.extend([line, b"\n"].concat());
@@ -24,12 +26,13 @@ impl Sums {
             let place = names.iter().position(|known| *known == name)?;
             sums[place].replace(sum).map_or(Some(()), |_| None)?;
         }
-        Some(Sums { held: sums[0]?, ledger: sums[1]?, notes })
+        Some(Sums { held: sums[0]?, ledger: sums[1]?, log: sums[2], notes })
     }
 
-    pub fn bytes(&self, held: &Path, ledger: &Path) -> Vec<u8> {
-        let lines = [line(&self.held, &file_name(held)), line(&self.ledger, &file_name(ledger))];
-        [self.notes.as_slice(), &lines.concat()].concat()
+    pub fn bytes(&self, files: [&Path; 3]) -> Vec<u8> {
+        let sums = [Some(self.held), Some(self.ledger), self.log];
+        let lines = sums.iter().zip(files).filter_map(|(sum, file)| sum.map(|sum| line(&sum, &file_name(file))));
+        lines.fold(self.notes.clone(), |all, line| [all, line].concat())
     }
 }
 
@@ -93,28 +96,32 @@ mod tests {
     use super::*;
     use std::ffi::OsStr;
     use std::os::unix::ffi::OsStrExt;
+    use std::path::PathBuf;
 
     #[test]
     fn sums_come_back_for_every_name() {
         for name in [b"a".as_slice(), b"new\nline", b"back\\slash", b"\xff bytes", b"# hash", b"\\n"] {
             let path = |ending: &str| Path::new(OsStr::from_bytes(name)).with_extension(ending);
-            let (held, ledger) = (path("held"), path("ledger"));
+            let paths = ["held", "ledger", "compacted"].map(path);
+            let [held, ledger, log] = [&paths[0], &paths[1], &paths[2]].map(PathBuf::as_path);
             let notes = frame_note(&[9; 32], Path::new("frame.sfrm"));
-            let sums = Sums { held: [1; 32], ledger: [0xfe; 32], notes };
-            let bytes = sums.bytes(&held, &ledger);
-            assert_eq!(Sums::parse(&bytes, &held, &ledger), Some(sums.clone()));
-            assert_eq!(Sums::parse(&bytes, &ledger, Path::new("other")), None);
-            assert_eq!(noted_frame(&sums.notes), Some("09".repeat(32)));
+            let sums = Sums { held: [1; 32], ledger: [0xfe; 32], log: None, notes };
+            for sums in [Sums { log: Some([7; 32]), ..sums.clone() }, sums] {
+                let bytes = sums.bytes([held, ledger, log]);
+                assert_eq!(Sums::parse(&bytes, [held, ledger, log]), Some(sums.clone()));
+                assert_eq!(Sums::parse(&bytes, [ledger, Path::new("other"), log]), None);
+                assert_eq!(noted_frame(&sums.notes), Some("09".repeat(32)));
+            }
         }
     }
 
     #[test]
     fn a_line_too_few_or_too_many_is_no_sums_file() {
-        let (held, ledger) = (Path::new("a.held"), Path::new("a.ledger"));
-        let bytes = Sums { held: [1; 32], ledger: [2; 32], notes: Vec::new() }.bytes(held, ledger);
+        let files = ["a.held", "a.ledger", "a.compacted"].map(Path::new);
+        let bytes = Sums { held: [1; 32], ledger: [2; 32], log: Some([3; 32]), notes: Vec::new() }.bytes(files);
         let second = bytes.iter().position(|byte| *byte == b'\n').unwrap() + 1;
         for wrong in [&bytes[second..], &bytes[..second], &bytes[..bytes.len() - 1], &bytes.repeat(2), b"", b"\n"] {
-            assert_eq!(Sums::parse(wrong, held, ledger), None, "{}", String::from_utf8_lossy(wrong));
+            assert_eq!(Sums::parse(wrong, files), None, "{}", String::from_utf8_lossy(wrong));
         }
     }
 }

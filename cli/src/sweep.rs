@@ -121,8 +121,7 @@ impl Job<'_> {
             // What a record says is settled where the holding goes.
             Kind::Holding if self.removes && lies.redo => Some(Answer::Yes),
             Kind::Holding => {
-                let asked =
-                    self.holding(name).ask(|holding| holding.must_have_held().and_then(|()| holding.read_ledger()));
+                let asked = self.holding(name).ask_ledger();
                 Some(asked.map_or_else(|failure| Answer::failed(&failure), |ledger| self.answer(&ledger)))
             }
         }
@@ -198,7 +197,7 @@ impl Job<'_> {
         }
         let into = self.into.map(|into| into.join(name.strip_prefix(self.folder).unwrap_or(name)));
         let what = into.as_ref().map_or("deleting".into(), |to| format!("moving to {}", shown(to)));
-        log.before(&what, name, &contents.ledger, &contents.state)?;
+        log.before(&what, name, &contents)?;
         let removed = owned.remove(contents.state, into.as_deref());
         self.log_removal(owned, removed, into, log)
     }

@@ -4,8 +4,7 @@ use crate::files;
 use crate::redo;
 use crate::shard::Shard;
 use std::collections::BTreeMap;
-use std::fs::{self, File};
-use std::io::Read;
+use std::fs;
 use std::path::{Path, PathBuf};
 use walkdir::{DirEntry, WalkDir};
 
@@ -45,7 +44,8 @@ pub struct Found {
 impl Lies {
     /// A holding is a ledger with its held file, or a record.
     pub fn kind(&self, name: &Path) -> Kind {
-        if self.held && self.ledger || self.redo && is_record(&files::with_ending(name, ".redo")) {
+        if self.held && self.ledger || self.redo && files::starts_with(&files::with_ending(name, ".redo"), redo::START)
+        {
             return Kind::Holding;
         }
         match (self.ledger, self.held) {
@@ -64,12 +64,6 @@ impl Lies {
             _ => {}
         }
     }
-}
-
-/// Other programs may have files that end like a record.
-fn is_record(path: &Path) -> bool {
-    let mut start = [0; redo::START.len()];
-    File::open(path).and_then(|mut file| file.read_exact(&mut start)).is_ok() && start == redo::START
 }
 
 /// Walks a folder, but for one that is left out. Names of other shards are not kept.
@@ -152,7 +146,7 @@ impl Found {
 /// A holding's name and the ending of one of its files.
 fn split(path: &Path) -> Option<(PathBuf, &str)> {
     let ending = path.extension()?.to_str()?;
-    ["held", "ledger", "redo", "lock", "sha256"]
+    ["held", "ledger", "redo", "lock", "sha256", "compacted"]
         .contains(&ending)
         .then(|| (path.with_extension(""), ending))
         .filter(|(name, _)| name.file_name().is_some())

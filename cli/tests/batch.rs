@@ -15,7 +15,7 @@ fn tier() -> Folder {
     f.put("frames/.hidden.sfrm", plain_frame());
     f.put_below("frames/.trash/c.sfrm", plain_frame());
     f.put("frames/.b.npy.abcdefghijkl.quayrudder", "left behind");
-    for ending in ["held", "ledger", "sha256", "lock", "redo"] {
+    for ending in ["held", "ledger", "sha256", "compacted", "lock", "redo"] {
         f.put(&format!("frames/h.{ending}"), "of a holding");
     }
     symlink("b.sfrm", f.join("frames/link.sfrm")).unwrap();

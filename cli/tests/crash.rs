@@ -2,7 +2,7 @@
 //!
 //! A library preloaded into the real command makes one call fail or ends the process there (fault.c).
 mod common;
-use common::{command_on, folder, plain_frame, ran, state_of, Folder, Ran, State, TODAY};
+use common::{command_on, folder, plain_frame, ran, state_of, Folder, Ran, State, ENDINGS, TODAY};
 use std::collections::BTreeSet;
 use std::fs;
 use std::process::Command;
@@ -26,7 +26,7 @@ fn faulty(f: &Folder, words: &str, fault: &str, at: u32) -> Option<Ran> {
     common::faulty(f, prepared(f, words), fault, at)
 }
 
-const GONE: State = [None, None, None];
+const GONE: State = [None, None, None, None];
 
 fn state(f: &Folder) -> State {
     state_of(f, "a")
@@ -42,9 +42,23 @@ fn before(words: &str) -> Folder {
         f.done("keep a 2031-11-02");
         f.done("correct a 4 70000");
     }
+    if words.starts_with("compact") {
+        f.done("withdraw a");
+    }
     if words.contains("--seal") {
         f.without_sums("a");
     }
+    f
+}
+
+/// A folder with a holding whose ledger was compacted to these three lines.
+fn compacted() -> Folder {
+    let f = before("open");
+    f.done("open a.sfrm --form 1+2 --room 100 -o a");
+    for words in ["correct a 3 300", "correct a 5 5", "withdraw a", "keep a 2031-11-02", "correct a 4 70000"] {
+        f.done(words);
+    }
+    assert_eq!(f.done("compact a"), "a: compacted from 5 lines to 3; the listing before is in a.compacted\n");
     f
 }
 
@@ -52,7 +66,7 @@ fn before(words: &str) -> Folder {
 fn before_again(words: &str, old: &State) -> Folder {
     let f = folder();
     f.put("a.sfrm", plain_frame());
-    for (ending, bytes) in ["held", "ledger", "sha256"].iter().zip(old) {
+    for (ending, bytes) in ENDINGS.iter().zip(old) {
         if let (false, Some(bytes)) = (words.starts_with("open"), bytes) {
             f.put(&format!("a.{ending}"), bytes);
         }
@@ -83,7 +97,7 @@ fn check_strays(f: &Folder, words: &str, found: &State) {
     let status = if words.starts_with("open") && found[1].is_some() { Some(1) } else { Some(0) };
     let next = f.run(change);
     assert_eq!(next.status, status, "{words}, then {change}: {next:?}");
-    let belong = ["a.held", "a.ledger", "a.sha256", "a.lock", "a.sfrm", "mark"];
+    let belong = ["a.held", "a.ledger", "a.sha256", "a.compacted", "a.lock", "a.sfrm", "mark"];
     let strays: Vec<String> = f.names().into_iter().filter(|name| !belong.contains(&name.as_str())).collect();
     assert!(strays.is_empty(), "{words}: {strays:?}");
     assert_eq!(fs::metadata(f.join("a.lock")).unwrap().len(), 0, "{words}");
@@ -92,10 +106,13 @@ fn check_strays(f: &Folder, words: &str, found: &State) {
 
 /// Every fault at every call of one change.
 fn at_every_step(words: &str, faults: &[&str], least: u32) {
-    let done = before(words);
-    let old = state(&done);
+    at_every_step_of(&before(words), words, faults, least);
+}
+
+fn at_every_step_of(done: &Folder, words: &str, faults: &[&str], least: u32) {
+    let old = state(done);
     done.done(words);
-    let new = state(&done);
+    let new = state(done);
     assert_ne!(old, new);
     for fault in faults {
         let mut steps = 0;
@@ -157,24 +174,52 @@ fn killed_and_failed_at_every_step_of_sealing() {
     at_every_step("verify --seal a", &ERRORS, 17);
 }
 
+#[test]
+fn killed_and_failed_at_every_step_of_a_compaction() {
+    at_every_step("compact a", &KILLS, 26);
+    at_every_step("compact a", &ERRORS, 26);
+}
+
+#[test]
+fn killed_and_failed_at_every_step_of_a_compaction_without_a_log() {
+    at_every_step("compact a --no-log", &["after", "28"], 22);
+}
+
+#[test]
+fn killed_and_failed_at_every_step_where_there_is_a_log_already() {
+    let f = compacted();
+    f.done("withdraw a");
+    at_every_step_of(&f, "compact a", &["torn", "5"], 26);
+    at_every_step_of(&compacted(), "correct a 1,1 65535", &["after", "28"], 26);
+}
+
 /// The names and bytes of all that lies in a folder.
 type Lying = Vec<(String, Vec<u8>)>;
 
 /// A holding with a record of a correction that was not applied, and the state that it leads to.
 fn unfinished() -> (Folder, State) {
     static MADE: OnceLock<(Lying, State)> = OnceLock::new();
-    let (files, new) = MADE.get_or_init(make_unfinished);
+    again(MADE.get_or_init(|| make_unfinished("correct a 5 5")))
+}
+
+/// The same with the record of a compaction.
+fn unfinished_compaction() -> (Folder, State) {
+    static MADE: OnceLock<(Lying, State)> = OnceLock::new();
+    again(MADE.get_or_init(|| make_unfinished("compact a")))
+}
+
+fn again((files, new): &(Lying, State)) -> (Folder, State) {
     let f = folder();
     files.iter().for_each(|(name, bytes)| f.put(name, bytes));
     (f, new.clone())
 }
 
 /// Killed when the record has its name: all that lies there then, and the state after the change.
-fn make_unfinished() -> (Lying, State) {
-    let f = before("correct");
-    let done = before_again("correct", &state(&f));
-    done.done("correct a 5 5");
-    let mut killed = prepared(&f, "correct a 5 5");
+fn make_unfinished(words: &str) -> (Lying, State) {
+    let f = before(words);
+    let done = before_again(words, &state(&f));
+    done.done(words);
+    let mut killed = prepared(&f, words);
     killed.env("FAULT", "after").env("FAULT_AT", "rename a.redo").output().unwrap();
     assert!(f.has("a.redo") && state(&f) != state(&done));
     (f.names().into_iter().map(|name| (name.clone(), f.get(&name))).collect(), state(&done))
@@ -191,7 +236,7 @@ fn every_command_finishes_an_unfinished_change_first() {
         assert_eq!(state(&f), new, "{words}");
         assert!(f.sums_hold("a.sha256"), "{words}");
     }
-    for words in ["correct a 6 6", "amend a 6", "keep a 2033-01-01", "withdraw a"] {
+    for words in ["correct a 6 6", "amend a 6", "keep a 2033-01-01", "withdraw a", "compact a"] {
         let (f, _) = unfinished();
         assert_eq!(f.run(words).status, Some(0));
         let line = f.done("list a").lines().nth(3).unwrap().to_string();
@@ -202,9 +247,9 @@ fn every_command_finishes_an_unfinished_change_first() {
     assert_eq!(state(&f), new);
 }
 
-#[test]
-fn finishing_may_be_interrupted_at_every_step_too() {
-    for fault in [KILLS, ERRORS].concat() {
+/// A change that is finished later meets these faults at every call, and is whole in the end.
+fn finished_at_every_step(unfinished: fn() -> (Folder, State), faults: &[&str]) {
+    for fault in faults {
         for at in 1.. {
             let (f, new) = unfinished();
             if faulty(&f, "list a", fault, at).is_none() {
@@ -218,12 +263,52 @@ fn finishing_may_be_interrupted_at_every_step_too() {
 }
 
 #[test]
+fn finishing_may_be_interrupted_at_every_step_too() {
+    finished_at_every_step(unfinished, &[KILLS, ERRORS].concat());
+    finished_at_every_step(unfinished_compaction, &["after", "28"]);
+}
+
+#[test]
+fn a_compaction_that_was_cut_short_is_finished_with_its_log_by_every_command() {
+    for words in ["list a", "verify .", "may-purge a 2031-11-03", "sweep . --day 2031-11-03", "compact a"] {
+        let (f, new) = unfinished_compaction();
+        assert!(!f.has("a.compacted"));
+        let ran = f.run(words);
+        assert!(ran.status == Some(0) && ran.err.contains("interrupted is finished"), "{words}: {ran:?}");
+        assert!(state(&f) == new && f.sums_hold("a.sha256"), "{words}");
+    }
+}
+
+#[test]
+fn a_file_in_the_way_of_a_log_that_is_to_come_is_kept() {
+    let (f, new) = unfinished_compaction();
+    f.put("a.compacted", "somebody's");
+    let ran = f.run("list a");
+    let said = "a.redo: is the record of a change to another state than that of a.compacted: ";
+    assert!(ran.status == Some(4) && ran.err.contains(said) && f.has("a.redo"), "{ran:?}");
+    assert_eq!(f.get("a.compacted"), b"somebody's");
+    fs::remove_file(f.join("a.compacted")).unwrap();
+    assert!(f.run("list a").status == Some(0) && state(&f) == new);
+}
+
+#[test]
+fn a_file_that_comes_in_the_way_of_a_log_meanwhile_is_kept() {
+    let (f, old) = (before("compact"), state(&before("compact")));
+    let mut run = prepared(&f, "compact a");
+    run.env("FAULT_RUN", "printf theirs > a.compacted").env("FAULT_RUN_AT", "rename a.compacted");
+    let ran = ran(run.output().unwrap());
+    assert!(ran.status == Some(1) && ran.err.contains("a.compacted: has come meanwhile and is kept"), "{ran:?}");
+    assert!(f.get("a.compacted") == b"theirs" && state(&f)[..3] == old[..3] && !f.has("a.redo"));
+    f.done("verify a");
+}
+
+#[test]
 fn a_damaged_record_is_an_error_and_nothing_is_deleted() {
     let (f, _) = unfinished();
     let record = f.get("a.redo");
     let old = state(&f);
     f.put("a.redo", &record[..record.len() - 1]);
-    let changes = ["correct a 1 1", "amend a 1", "withdraw a", "keep a 2040-01-01"];
+    let changes = ["correct a 1 1", "amend a 1", "withdraw a", "keep a 2040-01-01", "compact a"];
     for words in ["list a", "verify a", "may-purge a 2040-01-01"].into_iter().chain(changes) {
         let ran = f.run(words);
         let said = "a.redo: is the record of an unfinished change, and damaged. Nothing was changed or deleted.";
@@ -235,16 +320,15 @@ fn a_damaged_record_is_an_error_and_nothing_is_deleted() {
     assert_eq!((state(&f), f.get("a.redo").len()), (old, record.len() - 1));
 }
 
-/// Every fault at every call of a sweep that takes the holding away.
-fn sweep_at_every_step(sweep: &str, least: u32) {
-    let whole = state(&before("correct"));
-    for fault in [KILLS, ERRORS].concat() {
+/// These faults at every call of a sweep that takes the holding away.
+fn sweep_at_every_step(whole: &State, sweep: &str, faults: &[&str], least: u32) {
+    for fault in faults {
         let mut steps = 0;
         loop {
-            let f = before_again("correct", &whole);
+            let f = before_again("correct", whole);
             let Some(ran) = faulty(&f, sweep, fault, steps + 1) else { break };
             steps += 1;
-            check_sweep(&f, &format!("{sweep}, {fault} at {steps}: {ran:?}"), &whole);
+            check_sweep(&f, &format!("{sweep}, {fault} at {steps}: {ran:?}"), whole);
             let last = Some(state(&f)).filter(|found| found[0].is_some()).unwrap_or(whole.clone());
             let arrives = if sweep.contains("--into") { &last } else { &GONE };
             let next = ran_again(&f, sweep);
@@ -285,28 +369,35 @@ fn check_sweep(f: &Folder, said: &str, whole: &State) {
 
 #[test]
 fn a_purge_is_in_the_log_before_it_is_made_and_is_finished_by_the_next() {
-    sweep_at_every_step("sweep . --delete", 25);
+    sweep_at_every_step(&state(&before("correct")), "sweep . --delete", &[KILLS, ERRORS].concat(), 25);
 }
 
 #[test]
 fn a_holding_is_moved_whole_at_every_step() {
-    sweep_at_every_step("sweep . --into bin", 29);
+    sweep_at_every_step(&state(&before("correct")), "sweep . --into bin", &[KILLS, ERRORS].concat(), 29);
 }
 
-/// A sweep is killed when the held file has gone, and then the one that finishes it meets every fault at every call.
-fn finishing_at_every_step(sweep: &str, first: &str, least: u32) {
-    let whole = state(&before("correct"));
-    for fault in [KILLS, ERRORS].concat() {
+#[test]
+fn a_log_goes_and_moves_with_its_holding_at_every_step() {
+    let whole = state(&compacted());
+    sweep_at_every_step(&whole, "sweep . --delete", &["after", "5"], 26);
+    sweep_at_every_step(&whole, "sweep . --into bin", &["after", "5"], 30);
+    finishing_at_every_step(&whole, ["sweep . --into bin", "rename a.held"], &["before"], 16);
+}
+
+/// A sweep is killed when the held file has gone, and then the one that finishes it meets these faults at every call.
+fn finishing_at_every_step(whole: &State, [sweep, first]: [&str; 2], faults: &[&str], least: u32) {
+    for fault in faults {
         let mut steps = 0;
         loop {
-            let f = before_again("correct", &whole);
+            let f = before_again("correct", whole);
             prepared(&f, sweep).env("FAULT", "after").env("FAULT_AT", first).output().unwrap();
             assert!(!f.has("a.held") && f.has("a.ledger"));
             let Some(ran) = faulty(&f, sweep, fault, steps + 1) else { break };
             steps += 1;
             let next = ran_again(&f, sweep);
             assert!(next.status == Some(0) && state(&f) == GONE, "{fault} at {steps}: {ran:?}, then {next:?}");
-            let arrived = if sweep.contains("--into") { &whole } else { &GONE };
+            let arrived = if sweep.contains("--into") { whole } else { &GONE };
             assert!(
                 state_of(&f, "bin/a") == *arrived && !f.has("a.redo") && !f.has("a.lock"),
                 "{fault} at {steps}: {ran:?}"
@@ -318,8 +409,9 @@ fn finishing_at_every_step(sweep: &str, first: &str, least: u32) {
 
 #[test]
 fn finishing_a_purge_or_a_move_may_be_interrupted_at_every_step_too() {
-    finishing_at_every_step("sweep . --delete", "unlink a.held", 15);
-    finishing_at_every_step("sweep . --into bin", "rename a.held", 15);
+    let (whole, faults) = (state(&before("correct")), [KILLS, ERRORS].concat());
+    finishing_at_every_step(&whole, ["sweep . --delete", "unlink a.held"], &faults, 15);
+    finishing_at_every_step(&whole, ["sweep . --into bin", "rename a.held"], &faults, 15);
 }
 
 /// The calls of one run, without those that only say something.
@@ -361,6 +453,22 @@ fn everything_is_synced_before_it_is_relied_on() {
     let f = before("open");
     let all = all.replace("write .a.ledger.new\n", "");
     assert_eq!(calls(&f, "open a.sfrm --form 1 -o a"), MARKED.to_string() + &all + RECORDED + placed);
+}
+
+#[test]
+fn a_log_is_synced_and_placed_before_the_ledger_changes() {
+    let f = before("compact");
+    let logged = ["a.compacted", "a.ledger", "a.sha256", "a.redo"].map(staged).concat();
+    let placed = "rename a.compacted\nrename a.ledger\nrename a.sha256\nfsync FOLDER\nunlink a.redo\nftruncate a.lock";
+    assert_eq!(calls(&f, "compact a"), MARKED.to_string() + &logged + RECORDED + placed);
+    f.done("withdraw a");
+    let (logged, placed) = (logged.replace(&staged("a.compacted"), ""), placed.replace("rename a.compacted\n", ""));
+    assert_eq!(calls(&f, "compact a --no-log"), MARKED.to_string() + &logged + RECORDED + &placed);
+    let mut questions = prepared(&f, "compact a");
+    questions.env("FAULT_READS", f.join("reads"));
+    assert!(ran(questions.output().unwrap()).out.starts_with("a: already compact"));
+    let reads = fs::read_to_string(f.join("reads")).unwrap();
+    assert!(reads.contains(" a.ledger\n") && !reads.contains(" a.held\n"), "{reads}");
 }
 
 #[test]
@@ -441,6 +549,12 @@ fn a_read_only_folder_answers_questions_and_takes_no_change() {
         }
     }
     assert_eq!(state(&f), old);
+    let f = before("compact");
+    for words in ["compact a", "compact a --no-log"] {
+        let ran = read_only(&f, words);
+        assert!(ran.status == Some(3) && ran.err.contains("Read-only file system"), "{words}: {ran:?}");
+    }
+    assert_eq!(state(&f), state(&before("compact")));
 }
 
 #[test]

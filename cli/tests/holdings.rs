@@ -292,6 +292,9 @@ fn bad_usage_has_its_status() {
     for words in ["correct a 1 -1", "open a -o b", "sweep", "sweep . --day 11/02/2031", "list a/"] {
         assert_eq!(f.run(words).status, Some(2), "{words}");
     }
+    for words in ["compact", "compact a/", "compact -", "compact a --log x"] {
+        assert_eq!(f.run(words).status, Some(2), "{words}");
+    }
     for words in ["amend", "amend a", "amend a x", "amend a -1", "amend a 4294967296", "amend a 1,2 3", "amend a/ 1"] {
         assert_eq!(f.run(words).status, Some(2), "{words}");
     }
@@ -300,7 +303,7 @@ fn bad_usage_has_its_status() {
 #[test]
 fn every_command_has_help_with_an_example() {
     let f = folder();
-    let commands = "info expand view write open correct amend keep withdraw list may-purge verify sweep";
+    let commands = "info expand view write open correct amend keep withdraw compact list may-purge verify sweep";
     for command in commands.split(' ') {
         let help = f.done(&format!("{command} --help"));
         assert!(help.contains(&format!("  quayrudder {command} ")), "{help}");

@@ -174,10 +174,10 @@ fn npy_files() {
 #[test]
 fn records() {
     let digest = |bytes: &[u8]| Some(Digest::of(bytes));
-    let follows = State { held: None, ledger: digest(b"old") };
-    let makes = State { held: digest(b"frame"), ledger: digest(b"new") };
-    let change =
-        redo::Record { follows, makes, held: Some(b"frame"), ledger: Some(b"new"), sums: Some(b"sums"), into: None };
+    let follows = State { held: None, ledger: digest(b"old"), log: None };
+    let makes = State { held: digest(b"frame"), ledger: digest(b"new"), log: digest(b"# log") };
+    let (held, ledger, sums, log) = (Some(&b"frame"[..]), Some(&b"new"[..]), Some(&b"sums"[..]), Some(&b"# log"[..]));
+    let change = redo::Record { follows, makes, held, ledger, sums, into: None, log };
     let removal = redo::Record::of_removal(makes, Some("bin/a".into()));
     let samples = [change, removal].map(|record| {
         let mut bytes = Vec::new();
@@ -198,13 +198,13 @@ fn records() {
 
 #[test]
 fn sums_files() {
-    let (held, ledger) = (Path::new("a\\b.held"), Path::new("a\\b.ledger"));
+    let files = ["a\\b.held", "a\\b.ledger", "a\\b.compacted"].map(Path::new);
     let notes = sums::frame_note(&[9; 32], Path::new("frame.sfrm"));
-    let samples =
-        [notes, Vec::new()].map(|notes| sums::Sums { held: [1; 32], ledger: [2; 32], notes }.bytes(held, ledger));
+    let samples = [(notes, None), (Vec::new(), Some([3; 32]))]
+        .map(|(notes, log)| sums::Sums { held: [1; 32], ledger: [2; 32], log, notes }.bytes(files));
     feed(3, &samples, |bytes| {
         sums::noted_frame(bytes);
-        sums::Sums::parse(bytes, held, ledger).is_some()
+        sums::Sums::parse(bytes, files).is_some()
     });
 }
 

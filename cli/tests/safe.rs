@@ -66,7 +66,7 @@ fn an_old_record_put_back_changes_nothing() {
     let said =
         "a.redo: is the record of a change to another state than that of a.ledger: the record is older, it makes \
                 line 2 and the ledger has 4. Nothing was changed or deleted.";
-    let changes = ["keep a 2041-01-01", "withdraw a", "correct a 4 4", "amend a 4"];
+    let changes = ["keep a 2041-01-01", "withdraw a", "correct a 4 4", "amend a 4", "compact a"];
     for words in ["list a", "verify a", "may-purge a 2041-01-01"].into_iter().chain(changes) {
         unchanged(&f, words, 4, said);
         assert_eq!(f.get("a.redo"), record);
@@ -334,7 +334,7 @@ fn one_flipped_bit_is_found_and_said_of_which_file() {
     }
     f.put("a.ledger", &ledger);
     f.put("a.sha256", "nothing of the kind\n");
-    unchanged(&f, "verify a", 4, "a.sha256: does not have the sums of this holding's two files");
+    unchanged(&f, "verify a", 4, "a.sha256: does not have the sums of this holding's files");
 }
 
 #[test]

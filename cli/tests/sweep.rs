@@ -283,8 +283,8 @@ fn a_ledger_alone_is_no_holding_and_stays() {
     f.put("a.ledger", KEPT);
     let ran = f.run_on(DUE, "sweep . --day 2031-11-03 --delete");
     assert!(ran.status == Some(0) && ran.out.starts_with("not a holding ./a\n") && f.has("a.ledger"), "{ran:?}");
-    for words in ["keep a 2040-01-01", "may-purge a 2031-11-03", "withdraw a", "correct a 1 1", "amend a 1", "verify a"]
-    {
+    let changes = ["keep a 2040-01-01", "withdraw a", "correct a 1 1", "amend a 1", "compact a"];
+    for words in ["may-purge a 2031-11-03", "verify a"].into_iter().chain(changes) {
         let ran = f.run(words);
         assert!(ran.status == Some(4) && ran.err.contains("a.held: is missing"), "{words}: {ran:?}");
     }
@@ -318,9 +318,8 @@ fn names_that_are_no_text_are_told_apart() {
 fn what_a_killed_process_left_goes_with_the_holding() {
     let f = folder();
     holding(&f, "a", &KEPT);
-    let strays =
-        [".a.held.0123456789ab.quayrudder", ".a.redo.0123456789AB.quayrudder", ".b.held.0123456789ab.quayrudder"];
-    strays.iter().for_each(|name| f.put(name, "frame"));
+    let strays = ["a.held.0123456789ab", "a.redo.0123456789AB", "a.compacted.0123456789ab", "b.held.0123456789ab"];
+    strays.iter().for_each(|name| f.put(&format!(".{name}.quayrudder"), "frame"));
     f.put("b.lock", "quayrudder 4711\n");
     let own = ["a.held.tmp", ".a.held.mine.quayrudder", "theirs.lock", ".c.txt.0123456789ab.quayrudder"];
     own.iter().for_each(|name| f.put(name, "mine"));

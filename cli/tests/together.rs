@@ -63,6 +63,26 @@ fn amends_by_two_are_made_whole_one_after_the_other() {
     assert_eq!(f.done("verify a"), "a: held frame, ledger and sums agree, 401 lines, 1 standing\n");
 }
 
+#[test]
+fn amends_beside_compactions_lose_no_line() {
+    let f = folder();
+    large(&f);
+    f.done("correct a 7 99");
+    thread::scope(|scope| {
+        scope.spawn(|| (100_000..100_100).for_each(|count| f.run_quietly(&format!("amend a {count}"))));
+        for _ in 0..2 {
+            scope.spawn(|| (0..40).for_each(|_| f.run_quietly("compact a")));
+        }
+    });
+    f.run_quietly("compact a");
+    assert_eq!(f.done("list a"), "line 1 correct 7 50 100099\nstanding 1\n");
+    assert_eq!(f.done("verify a"), "a: held frame, ledger and sums agree, 1 lines, 1 standing\n");
+    let log = String::from_utf8(f.get("a.compacted")).unwrap();
+    let withdrawn = log.lines().filter(|line| line.contains(" correct 7 50 ") && line.ends_with(" withdrawn"));
+    let counts: Vec<u32> = withdrawn.map(|line| line.split(' ').nth(5).unwrap().parse().unwrap()).collect();
+    assert_eq!(counts, [99].into_iter().chain(100_000..100_099).collect::<Vec<u32>>());
+}
+
 impl Folder {
     fn run_quietly(&self, words: &str) {
         let ran = self.run(words);

@@ -59,6 +59,10 @@ class Holding:
     False
     >>> holding.kept_until() is None
     True
+    >>> holding.compact()
+    1
+    >>> holding.list()
+    [Line(number=1, kind='correct', withdrawn=False, pixel=38650, old=4000000, new=95, date=None)]
     """
 
     def __init__(self, name: Path, wait: int | None = None) -> None:
@@ -97,6 +101,10 @@ class Holding:
     def withdraw(self) -> Line:
         """Takes back the last correction or keep date that stands. The answer is the line that was taken back."""
         return _line(self._run("withdraw")["withdraws"])
+
+    def compact(self, log: bool = True) -> int:
+        """Leaves the lines that stand alone, and says how many they are. What the ledger said before is kept in NAME.compacted, unless `log` is false."""
+        return int(self._run("compact", options=[] if log else ["--no-log"])["lines"])
 
     def list(self) -> List[Line]:
         """The lines of the ledger, in their order."""

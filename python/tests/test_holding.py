@@ -61,6 +61,17 @@ class Holdings(unittest.TestCase):
         self.assertIs(self.holding.may_purge(datetime.date(2031, 11, 2)), False)
         self.assertIs(self.holding.may_purge(datetime.date(2031, 11, 3)), True)
 
+    def test_compaction_leaves_what_stands(self):
+        self.holding.correct(1, 5)
+        self.holding.keep("2031-11-02")
+        self.assertEqual((self.holding.withdraw().kind, self.holding.compact()), ("keep", 1))
+        with open(self.holding.name + ".compacted") as log:
+            self.assertIn("2 keep 2031-11-02 withdrawn", log.read())
+        self.assertEqual((self.holding.keep("2031-11-03").number, self.holding.compact()), (2, 2))
+        self.holding.withdraw()
+        self.assertEqual((self.holding.compact(log=False), [line.pixel for line in self.holding.list()]), (1, [1]))
+        self.holding.verify()
+
     def test_a_malformed_ledger_is_never_a_yes(self):
         os.remove(self.holding.name + ".sha256")
         with open(self.holding.name + ".ledger", "wb") as ledger:

@@ -93,11 +93,14 @@ pub fn killed_in_turn(f: &Folder, words: &str, calls: &[&str]) {
     }
 }
 
-/// The bytes of held file, ledger and sums, where they exist.
-pub type State = [Option<Vec<u8>>; 3];
+/// The files of a holding that last.
+pub const ENDINGS: [&str; 4] = ["held", "ledger", "sha256", "compacted"];
+
+/// The bytes of these files, where they exist.
+pub type State = [Option<Vec<u8>>; 4];
 
 pub fn state_of(f: &Folder, name: &str) -> State {
-    ["held", "ledger", "sha256"].map(|ending| fs::read(f.join(&format!("{name}.{ending}"))).ok())
+    ENDINGS.map(|ending| fs::read(f.join(&format!("{name}.{ending}"))).ok())
 }
 
 impl Folder {
