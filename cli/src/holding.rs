@@ -256,15 +256,18 @@ impl Holding {
     }
 
     /// A record belongs to the files where each of them is as before it or as after it. A compaction may bring held file
-    /// and ledger of earlier back; but notes are only added, so no note here is unknown to the record.
+    /// and ledger of earlier back; but notes are only added, so no note here is unknown to the record, and the sums come
+    /// last, so where they have a compaction's own note its ledger is as after it.
     fn must_belong(&self, record: &Record, found: &State) -> Outcome<()> {
         let (follows, makes) = (&record.follows, &record.makes);
         let belongs = |of: fn(&State) -> Option<Digest>| of(found) == of(follows) || of(found) == of(makes);
+        let notes = self.notes(record);
+        let is_noted = record.compacts() && notes.as_ref().is_some_and(|(found, made)| found == made);
         let files = [
-            (&self.ledger, belongs(|state| state.ledger)),
+            (&self.ledger, belongs(|state| state.ledger) && !(is_noted && found.ledger != makes.ledger)),
             (&self.held, belongs(|state| state.held)),
             (&self.log, belongs(|state| state.log)),
-            (&self.sums, self.notes(record).is_none_or(|(found, made)| made.starts_with(&found))),
+            (&self.sums, notes.is_none_or(|(found, made)| made.starts_with(&found))),
         ];
         match files.iter().find(|(_, belongs)| !belongs) {
             Some((stranger, _)) => Err(self.foreign(record, stranger)),

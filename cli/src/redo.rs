@@ -39,6 +39,11 @@ impl<'a> Record<'a> {
         self.makes == State::default()
     }
 
+    /// Is it the record of a compaction? Every other change appends lines or leaves the ledger.
+    pub fn compacts(&self) -> bool {
+        self.follows.ledger.zip(self.makes.ledger).is_some_and(|(before, after)| after.length < before.length)
+    }
+
     /// Has the holding a log, before or after?
     pub fn has_log(&self) -> bool {
         self.follows.log.or(self.makes.log).is_some()

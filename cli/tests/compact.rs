@@ -435,16 +435,22 @@ fn no_holding_is_opened_beside_the_log_of_another() {
     assert!(!f.has("a.held") && !f.has("a.lock"));
 }
 
-/// A holding with three lines, and the record of the third, which is finished.
+/// The record of a change, which is finished.
+fn record_of(f: &Folder, words: &str) -> Vec<u8> {
+    let mut killed = command();
+    killed.args(words.split(' ')).current_dir(f.path());
+    killed.env("FAULT", "after").env("FAULT_AT", "rename a.redo").output().unwrap();
+    let record = f.get("a.redo");
+    assert!(f.run("list a").err.contains("interrupted is finished"));
+    record
+}
+
+/// A holding with three lines, and the record of the third.
 fn with_old_record() -> (Folder, Vec<u8>) {
     let f = folder();
     f.hold("1", 100);
     all(&f, &["correct a 1 1", "correct a 2 2"]);
-    let mut killed = command();
-    killed.args(["correct", "a", "4", "4"]).current_dir(f.path());
-    killed.env("FAULT", "after").env("FAULT_AT", "rename a.redo").output().unwrap();
-    let record = f.get("a.redo");
-    assert!(f.run("list a").err.contains("interrupted is finished"));
+    let record = record_of(&f, "correct a 4 4");
     (f, record)
 }
 
@@ -473,6 +479,20 @@ fn an_old_record_put_back_beside_the_same_bytes_after_a_compaction_changes_nothi
             f.without_sums("a");
         }
         old_record(&f, &record, &format!("another state than that of {stranger}: by their times the "));
+    }
+}
+
+#[test]
+fn a_compactions_own_record_is_not_done_again_on_the_same_lines() {
+    for words in ["compact a", "compact a --no-log"] {
+        let f = folder();
+        f.hold("1", 100);
+        all(&f, &["correct a 1 1", "withdraw a"]);
+        let before = f.get("a.ledger");
+        let record = record_of(&f, words);
+        all(&f, &["correct a 1 1", "withdraw a"]);
+        assert!(f.get("a.ledger") == before, "{words}");
+        old_record(&f, &record, "another state than that of a.ledger: ");
     }
 }
 

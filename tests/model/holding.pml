@@ -85,10 +85,10 @@ inline let_go(fd, has) {
 #else
 #define KNOWN (notes[sums] <= notes[makes])
 #endif
-#ifdef OWN_NOTE
-#define OWN (notes[makes] == notes[follows] || notes[sums] < notes[makes] || SAME(ledger, makes))
-#else
+#ifdef ANY_NOTE
 #define OWN true
+#else
+#define OWN (notes[makes] == notes[follows] || notes[sums] < notes[makes] || SAME(ledger, makes))
 #endif
 
 /* A record belongs to the files where each of them is as before it or as after it. */
@@ -144,11 +144,7 @@ inline settle(refused) {
     fi
 }
 
-#ifdef AGAIN
 #define APPENDED (ledger -> bytes[ledger] + 1 : states + 1)
-#else
-#define APPENDED (states + 1)
-#endif
 
 /* The state that a change makes. With a keep date it is not due. A compaction stands for the withdrawals before it too: it
    leaves any smaller number of lines, with or without a log. */

@@ -12,8 +12,7 @@
 #   ANY_RECORD     a record is used whatever the files are
 #   NO_NOTES       a record is used whatever compactions the sums note
 #   LOG_LAST       the log of compactions is put in place after the ledger
-#   AGAIN          lines that are appended after a compaction bring bytes back too
-#   OWN_NOTE       a record whose own note is in the sums is used only where the ledger is as after it
+#   ANY_NOTE       a compaction's record is used on the ledger before it, though its own note is in the sums
 set -eu
 model=$(realpath "$(dirname "$0")")/holding.pml
 mkdir -p "$1"
@@ -58,6 +57,4 @@ must_hold SAFETY -O1 -DCOMPACTION -DREADERS=0 -DKILLS=0 -DRESTORE
 must_hold SAFETY -O1 -DCOMPACTION -DWRITERS=1 -DKILLS=0
 must_fail -DCOMPACTION -DREADERS=0 -DKILLS=0 -DLOG_LAST
 must_fail -DCOMPACTION -DREADERS=0 -DKILLS=0 -DRESTORE -DNO_NOTES
-# Open in the command: a compaction's own record is done again. The rule that would prevent it holds.
-must_fail -DCOMPACTION -DREADERS=0 -DKILLS=0 -DRESTORE -DAGAIN
-must_hold SAFETY -O1 -DCOMPACTION -DREADERS=0 -DKILLS=0 -DRESTORE -DAGAIN -DOWN_NOTE
+must_fail -DCOMPACTION -DREADERS=0 -DKILLS=0 -DRESTORE -DANY_NOTE
