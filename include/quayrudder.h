@@ -9,6 +9,7 @@ typedef struct { uint32_t refusal, place, column; uint64_t length; } qr_write_an
 typedef struct { uint32_t refusal, place, column, rows, columns; uint64_t end, length; } qr_open_answer;
 typedef struct { uint32_t refusal; uint64_t lines; } qr_ledger_answer;
 typedef struct { uint32_t too_short; uint64_t length; } qr_list_answer;
+typedef struct { uint32_t refusal; uint64_t line; } qr_why_answer;
 typedef struct {
     uint32_t refusal, place, column, format, start, rows, columns, width, entries, subtracted, entry, baseline, underflows, two, four;
 } qr_header_answer;
@@ -48,6 +49,14 @@ qr_ledger_answer qr_compact(uint8_t *ledger, size_t ledger_len, uint64_t lines);
 
 /* 0: purge is allowed on this day. */
 uint32_t qr_may_purge(const uint8_t *ledger, size_t ledger_len, uint64_t lines, uint32_t year, uint32_t month, uint32_t day);
+
+/* The same question with its reason. line: the keep line that decides, the last that stands, by its number in the listing, from 1; with refusal 0 (yes)
+   and 27 (not yet) there is one, with 20, 25 and 26 it is 0. */
+qr_why_answer qr_why_day(const uint8_t *ledger, size_t ledger_len, uint64_t lines, uint32_t year, uint32_t month, uint32_t day);
+
+/* The last correction of a pixel that stands, by its number in the listing; line 0 with refusal 0: the pixel is as opened. Refusal 20 only: the frame is not
+   asked, so the number may be any. */
+qr_why_answer qr_why_pixel(const uint8_t *ledger, size_t ledger_len, uint64_t lines, uint64_t pixel);
 
 /* What a header says. start: its length; entries: of FORMAT 86's table; subtracted: 1 where the underflow count is not -1; entry: bytes of an
    underflow entry. A field that does not apply is 0. */

@@ -77,6 +77,14 @@ pub struct ListAnswer {
     pub length: u64,
 }
 
+/// The ledger's line that decides, numbered from 1 as in the listing; 0 where none does.
+#[repr(C)]
+#[derive(Clone, Copy, Debug, PartialEq, Eq)]
+pub struct WhyAnswer {
+    pub refusal: u32,
+    pub line: u64,
+}
+
 /// One entry of a mar image's header: a whole number, or a float where `is_float` is 1, as its 32 bits are stored.
 #[repr(C)]
 #[derive(Clone, Copy, Debug, PartialEq, Eq)]
@@ -133,7 +141,7 @@ pub struct Date {
 
 mod c {
     use super::{DtrekHeaderAnswer, DtrekItemAnswer, HeaderAnswer, LedgerAnswer};
-    use super::{ListAnswer, MarEntryAnswer, OpenAnswer, ReadAnswer, WriteAnswer};
+    use super::{ListAnswer, MarEntryAnswer, OpenAnswer, ReadAnswer, WhyAnswer, WriteAnswer};
 
     #[rustfmt::skip]
     extern "C" {
@@ -163,6 +171,10 @@ mod c {
         pub fn qr_may_purge(
             ledger: *const u8, ledger_len: usize, lines: u64, year: u32, month: u32, day: u32,
         ) -> u32;
+        pub fn qr_why_day(
+            ledger: *const u8, ledger_len: usize, lines: u64, year: u32, month: u32, day: u32,
+        ) -> WhyAnswer;
+        pub fn qr_why_pixel(ledger: *const u8, ledger_len: usize, lines: u64, pixel: u64) -> WhyAnswer;
         pub fn qr_header(frame: *const u8, frame_len: usize) -> HeaderAnswer;
         pub fn qr_list(ledger: *const u8, ledger_len: usize, out: *mut u8, out_len: usize) -> ListAnswer;
         pub fn qr_mar_read(file: *const u8, file_len: usize, pixels: *mut u32, pixels_len: usize) -> ReadAnswer;
@@ -227,6 +239,16 @@ pub fn compact(ledger: &mut [u8], lines: u64) -> LedgerAnswer {
 /// May the frame be purged on this day: 0, or the refusal.
 pub fn may_purge(ledger: &[u8], lines: u64, day: Date) -> u32 {
     unsafe { c::qr_may_purge(ledger.as_ptr(), ledger.len(), lines, day.year, day.month, day.day) }
+}
+
+/// The purge question with the keep line that decides it: the last that stands.
+pub fn why_day(ledger: &[u8], lines: u64, day: Date) -> WhyAnswer {
+    unsafe { c::qr_why_day(ledger.as_ptr(), ledger.len(), lines, day.year, day.month, day.day) }
+}
+
+/// The last standing correction of a pixel; line 0 with refusal 0 where the pixel is as opened.
+pub fn why_pixel(ledger: &[u8], lines: u64, pixel: u64) -> WhyAnswer {
+    unsafe { c::qr_why_pixel(ledger.as_ptr(), ledger.len(), lines, pixel) }
 }
 
 /// What the header of a frame says.
