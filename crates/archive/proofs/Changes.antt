@@ -22,7 +22,8 @@ use Rattle.ledger.specs.declared.Summary.{Summary}
 use Rattle.ledger.specs.declared.SurveyAnswer.the-variants as Y
 use Rattle.ledger.specs.Lines.{linesOf}
 use Rattle.ledger.specs.Standing.{lastStanding, anyLine}
-use Rattle.ledger.specs.Ledger.{ledgerMalformed, ledgerFull, withLine, summaryOf, surveyOf, appendAnswer, appendBytes}
+use Rattle.ledger.specs.Ledger.{ledgerMalformed, ledgerFull, withLine, summaryFor, surveyOf, appendAnswer, appendBytes}
+use Rattle.ledger.proofs.Scanning.{survey-sound}
 use Rattle.ledger.proofs.Appending.{appended-answer, appended-bytes}
 use Rattle.writer.specs.Writer.{Made, frame, refused, outputOf}
 use Rattle.readback.specs.Held.{heldCount, heldPixels, isHeld}
@@ -252,23 +253,9 @@ unfolding located heldRefusal
 refusal-is held pixel r = refusal-tests (isHeld held) (leb (heldCount held) pixel) (placeIn held pixel) r
 
 -- what a survey says of the ledger
-surveyed-if : (t : Bool) (x y : Summary) → if_then_else_ t Y.Malformed (Y.Surveyed x) ≡ Y.Surveyed y → (t ≡ false) × (y ≡ x)
-surveyed-if true x y e = let z : _≡_ {A = ℕ} 0 1 = cc in absurd (omega arith)
-surveyed-if false x y e = (refl, cc)
-
-malformed-if : (t : Bool) (x : Summary) → if_then_else_ t Y.Malformed (Y.Surveyed x) ≡ Y.Malformed → t ≡ true
-malformed-if true x e = refl
-malformed-if false x e = let z : _≡_ {A = ℕ} 0 1 = cc in absurd (omega arith)
-
 pub surveyed : (t : List ℕ) (lines : ℕ) (y : Summary) → surveyOf t lines ≡ Y.Surveyed y → (ledgerMalformed t lines ≡ false) × (y .last ≡ lastStanding anyLine 0 (linesOf lines t))
-unfolding surveyOf summaryOf
-surveyed t lines y e =
-    let r = surveyed-if (ledgerMalformed t lines) (summaryOf (linesOf lines t)) y e in
-    (r .0, ap (λ (x : Summary). x .last) (r .1))
-
-pub malformed : (t : List ℕ) (lines : ℕ) → surveyOf t lines ≡ Y.Malformed → ledgerMalformed t lines ≡ true
-unfolding surveyOf
-malformed t lines e = malformed-if (ledgerMalformed t lines) _ e
+unfolding summaryFor
+surveyed t lines y e = let s = survey-sound t lines y e in (s .well, ap (λ (x : Summary). x .last) (s .is))
 
 -- a frame has fewer pixels than 32 bits count
 area-small : (m n : ℕ) → m ≤ 4096 → n ≤ 4096 → m * n ≤ 4294967295

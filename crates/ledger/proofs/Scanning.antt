@@ -18,12 +18,14 @@ use Rattle.ledger.specs.declared.LineAnswer.{LineAnswer}
 use Rattle.ledger.specs.declared.LineAnswer.the-variants.{WellFormed, Malformed}
 use Rattle.ledger.specs.declared.Found.{Found}
 use Rattle.ledger.specs.declared.Found.the-variants.{At, Nothing}
+use Rattle.ledger.specs.declared.Sought.{Sought}
+use Rattle.ledger.specs.declared.Sought.the-variants as S
 use Rattle.ledger.specs.declared.Scan.{Scan}
 use Rattle.ledger.specs.declared.Summary.{Summary}
 use Rattle.ledger.specs.declared.SurveyAnswer.the-variants as Y
 use Rattle.ledger.specs.Lines.{fieldsOf, lineOf, bytesAt, linesOf, isMalformed, someMalformed}
-use Rattle.ledger.specs.Standing.{withdraws, keeps, anyLine, stands, cancelled, standing, overdrawn, orElse, lastStanding}
-use Rattle.ledger.specs.Ledger.{capacity, ledgerMalformed, summaryOf, surveyOf}
+use Rattle.ledger.specs.Standing.{withdraws, anyLine, stands, cancelled, standing, overdrawn, orElse, lastStanding}
+use Rattle.ledger.specs.Ledger.{capacity, ledgerMalformed, isSought, summaryFor, surveyFor, surveyOf}
 use Rattle.ledger.specs.Survey.{numberElse, scanBack, foundBy, foundAt}
 use Rattle.ledger.proofs.Packing.{line-read}
 use Rattle.ledger.proofs.StandingLaws.{depth, cancelled-is, overdrawn-all, depth-small, standing-small}
@@ -38,27 +40,24 @@ number-else (At j x) i l = rw (ne-eqb (j + 1) 0 (λ z. omega arith))
 number-else Nothing i l = refl
 
 -- what a survey knows of the lines from this index on
-abbrev pub scanOf : ℕ → List Line → Scan
-scanOf i ls = record { skip = depth ls; count = length (standing ls); last = numberOf (lastStanding anyLine i ls); keep = numberOf (lastStanding keeps i ls) }
+abbrev pub scanOf : Sought → ℕ → List Line → Scan
+scanOf q i ls = record { skip = depth ls; count = length (standing ls); last = numberOf (lastStanding anyLine i ls); sought = numberOf (lastStanding (isSought q) i ls) }
 
-pub scan-none : (i : ℕ) → scanOf i [] ≡ record { skip = 0; count = 0; last = 0; keep = 0 }
+pub scan-none : (q : Sought) (i : ℕ) → scanOf q i [] ≡ record { skip = 0; count = 0; last = 0; sought = 0 }
 unfolding depth standing lastStanding
-scan-none i = refl
+scan-none q i = refl
 
-pub scan-more : (i : ℕ) (l : Line) (ls : List Line) → scanBack (scanOf (suc i) ls) i (l .kind) ≡ scanOf i (l ∷ ls)
+pub scan-more : (q : Sought) (i : ℕ) (l : Line) (ls : List Line) → scanBack (scanOf q (suc i) ls) i l q ≡ scanOf q i (l ∷ ls)
 unfolding scanBack depth standing lastStanding
-scan-more i l ls = go (withdraws l) refl (depth ls) refl (keeps l) refl
+scan-more q i l ls = go (withdraws l) refl (depth ls) refl (isSought q l) refl
   where
-    last : numberElse (numberOf (lastStanding anyLine (suc i) ls)) i ≡ numberOf (orElse (lastStanding anyLine (suc i) ls) (At i l))
-    last = number-else (lastStanding anyLine (suc i) ls) i l
+    found : (test : Line → Bool) → numberElse (numberOf (lastStanding test (suc i) ls)) i ≡ numberOf (orElse (lastStanding test (suc i) ls) (At i l))
+    found test = number-else (lastStanding test (suc i) ls) i l
 
-    keep : numberElse (numberOf (lastStanding keeps (suc i) ls)) i ≡ numberOf (orElse (lastStanding keeps (suc i) ls) (At i l))
-    keep = number-else (lastStanding keeps (suc i) ls) i l
-
-    go : (t : Bool) → withdraws l ≡ t → (d : ℕ) → depth ls ≡ d → (k : Bool) → keeps l ≡ k → scanBack (scanOf (suc i) ls) i (l .kind) ≡ scanOf i (l ∷ ls)
+    go : (t : Bool) → withdraws l ≡ t → (d : ℕ) → depth ls ≡ d → (k : Bool) → isSought q l ≡ k → scanBack (scanOf q (suc i) ls) i l q ≡ scanOf q i (l ∷ ls)
     go true e d f k g = rw (e, add-one)
-    go false e zero f true g = rw (e, cancelled-is ls, f, g, add-one, last, keep)
-    go false e zero f false g = rw (e, cancelled-is ls, f, g, add-one, last)
+    go false e zero f true g = rw (e, cancelled-is ls, f, g, add-one, found anyLine, found (isSought q))
+    go false e zero f false g = rw (e, cancelled-is ls, f, g, add-one, found anyLine)
     go false e (suc d) f k g =
         let p : suc d - 1 ≡ d = omega arith in
         rw (e, cancelled-is ls, f, lt-ltb 0 (suc d) (omega arith), p)
@@ -151,18 +150,18 @@ found-again test t n h = found-from test t n 0 h
 
 -- a survey on its way: lines from i on are passed
 
-pub record Surveying (t : List ℕ) (n i : ℕ) (s : Scan) : Type 0 where
+pub record Surveying (q : Sought) (t : List ℕ) (n i : ℕ) (s : Scan) : Type 0 where
   pub upto : i ≤ n
-  pub scan : s ≡ scanOf i (linesOf (n - i) (drop (i * 16) t))
+  pub scan : s ≡ scanOf q i (linesOf (n - i) (drop (i * 16) t))
   pub well : someMalformed (n - i) (drop (i * 16) t) ≡ false
 
-pub surveying-start : (t : List ℕ) (n : ℕ) → Surveying t n n (record { skip = 0; count = 0; last = 0; keep = 0 })
+pub surveying-start : (q : Sought) (t : List ℕ) (n : ℕ) → Surveying q t n n (record { skip = 0; count = 0; last = 0; sought = 0 })
 unfolding linesOf someMalformed
-surveying-start t n =
+surveying-start q t n =
     let e : n - n ≡ 0 = omega arith in
-    record { upto = omega arith; scan = rw e (sym (scan-none n)); well = rw e }
+    record { upto = omega arith; scan = rw e (sym (scan-none q n)); well = rw e }
 
-module _ {t : List ℕ} {n i : ℕ} {s : Scan} (f : Surveying t n i s) where
+module _ {q : Sought} {t : List ℕ} {n i : ℕ} {s : Scan} (f : Surveying q t n i s) where
   pub skip-small : s .skip + i ≤ n
   skip-small =
       let ls = linesOf (n - i) (drop (i * 16) t) in
@@ -181,45 +180,45 @@ module _ {t : List ℕ} {n i : ℕ} {s : Scan} (f : Surveying t n i s) where
       let m : someMalformed (n - j) (drop (j * 16) t) ≡ true = malformed-from t n j (omega (arith, f .upto)) ∙ rw b in
       rw (malformed-later t n j (omega (arith, f .upto)) m) (or-true (ltb (capacity t) n))
 
-  pub surveying-more : (j : ℕ) (l : Line) (s′ : Scan) → i ≡ suc j → lineOf (bytesAt t j) ≡ WellFormed l → s′ ≡ scanBack s j (l .kind) → Surveying t n j s′
-  surveying-more j l s′ e b q =
+  pub surveying-more : (j : ℕ) (l : Line) (s′ : Scan) → i ≡ suc j → lineOf (bytesAt t j) ≡ WellFormed l → s′ ≡ scanBack s j l q → Surveying q t n j s′
+  surveying-more j l s′ e b back =
       let h : j < n = omega (arith, f .upto) in
-      let k : Surveying t n (suc j) s = rw e at f in
+      let k : Surveying q t n (suc j) s = rw e at f in
       let g : l ≡ fieldsOf (big (bytesAt t j)) = line-fields (bytesAt t j) l b in
       let later : List Line = linesOf (n - suc j) (drop (suc j * 16) t) in
       record {
         upto = omega arith;
-        scan = q ∙ ap (λ (x : Scan). scanBack x j (l .kind)) (k .scan) ∙ ap (λ (x : Line). scanBack (scanOf (suc j) later) j (x .kind)) g ∙ scan-more j _ _ ∙ ap (scanOf j) (sym (lines-from t n j h));
+        scan = back ∙ ap (λ (x : Scan). scanBack x j l q) (k .scan) ∙ ap (λ (x : Line). scanBack (scanOf q (suc j) later) j x q) g ∙ scan-more q j _ _ ∙ ap (scanOf q j) (sym (lines-from t n j h));
         well = malformed-from t n j h ∙ rw b (k .well);
       }
 
-  whole : i ≡ 0 → (s ≡ scanOf 0 (linesOf n t)) × (someMalformed n t ≡ false)
+  whole : i ≡ 0 → (s ≡ scanOf q 0 (linesOf n t)) × (someMalformed n t ≡ false)
   whole e =
-      let k : Surveying t n 0 s = rw e at f in
+      let k : Surveying q t n 0 s = rw e at f in
       let z : n - 0 ≡ n = omega arith in
-      (k .scan ∙ ap (λ (m : ℕ). scanOf 0 (linesOf m t)) z, ap (λ (m : ℕ). someMalformed m t) (sym z) ∙ k .well)
+      (k .scan ∙ ap (λ (m : ℕ). scanOf q 0 (linesOf m t)) z, ap (λ (m : ℕ). someMalformed m t) (sym z) ∙ k .well)
 
   verdict : (b : Bool) → i ≡ 0 → n ≤ capacity t → ltb 0 (s .skip) ≡ b → ledgerMalformed t n ≡ b
   unfolding ledgerMalformed
-  verdict b e h q =
+  verdict b e h over =
       let w = whole e in
       let d : s .skip ≡ depth (linesOf n t) = ap (λ (x : Scan). x .skip) (w .0) in
-      rw (le-ltb (capacity t) n h, w .1, overdrawn-all, ← d, q)
+      rw (le-ltb (capacity t) n h, w .1, overdrawn-all, ← d, over)
 
   pub surveying-over : i ≡ 0 → n ≤ capacity t → 0 < s .skip → ledgerMalformed t n ≡ true
   surveying-over e h k = verdict true e h (lt-ltb _ _ k)
 
-  pub surveying-done : i ≡ 0 → n ≤ capacity t → s .skip ≤ 0 → Y.Surveyed (record { last = foundAt t (s .last); keep = foundAt t (s .keep); count = s .count }) ≡ surveyOf t n
-  unfolding surveyOf
+  pub surveying-done : i ≡ 0 → n ≤ capacity t → s .skip ≤ 0 → Y.Surveyed (record { last = foundAt t (s .last); sought = foundAt t (s .sought); count = s .count }) ≡ surveyFor q t n
+  unfolding surveyFor summaryFor
   surveying-done e h k =
       let w = whole e in
       rw (verdict false e h (le-ltb 0 (s .skip) k))
-      (ap (λ (x : Scan). Y.Surveyed (record { last = foundAt t (x .last); keep = foundAt t (x .keep); count = x .count })) (w .0) ∙ rw (found-again anyLine t n (w .1), found-again keeps t n (w .1)))
+      (ap (λ (x : Scan). Y.Surveyed (record { last = foundAt t (x .last); sought = foundAt t (x .sought); count = x .count })) (w .0) ∙ rw (found-again anyLine t n (w .1), found-again (isSought q) t n (w .1)))
 
 -- the answer of a survey that meets refusal 20
-pub survey-refused : (t : List ℕ) (n : ℕ) → ledgerMalformed t n ≡ true → Y.Malformed ≡ surveyOf t n
-unfolding surveyOf
-survey-refused t n e = rw e
+pub survey-refused : (q : Sought) (t : List ℕ) (n : ℕ) → ledgerMalformed t n ≡ true → Y.Malformed ≡ surveyFor q t n
+unfolding surveyFor
+survey-refused q t n e = rw e
 
 pub claimed-more : (t : List ℕ) (n : ℕ) → capacity t < n → ledgerMalformed t n ≡ true
 unfolding ledgerMalformed
@@ -227,27 +226,39 @@ claimed-more t n h = rw (lt-ltb (capacity t) n h)
 
 -- what a survey's answer says
 
-survey-tests : (t : List ℕ) (n : ℕ) → surveyOf t n ≡ if_then_else_ (ledgerMalformed t n) Y.Malformed (Y.Surveyed (summaryOf (linesOf n t)))
-unfolding surveyOf
-survey-tests t n = refl
+survey-tests : (q : Sought) (t : List ℕ) (n : ℕ) → surveyFor q t n ≡ if_then_else_ (ledgerMalformed t n) Y.Malformed (Y.Surveyed (summaryFor q (linesOf n t)))
+unfolding surveyFor
+survey-tests q t n = refl
+
+pub record Sound (q : Sought) (t : List ℕ) (n : ℕ) (s : Summary) : Type 0 where
+  pub well : ledgerMalformed t n ≡ false
+  pub is : s ≡ summaryFor q (linesOf n t)
+
+module _ (q : Sought) (t : List ℕ) (n : ℕ) where
+  pub malformed-for : surveyFor q t n ≡ Y.Malformed → ledgerMalformed t n ≡ true
+  malformed-for e = go (ledgerMalformed t n) (sym (survey-tests q t n) ∙ e)
+    where
+      go : (b : Bool) → if_then_else_ b Y.Malformed (Y.Surveyed (summaryFor q (linesOf n t))) ≡ Y.Malformed → b ≡ true
+      go true h = refl
+      go false h = let z : _≡_ {A = ℕ} 0 1 = cc in absurd (omega arith)
+
+  pub sound-for : (s : Summary) → surveyFor q t n ≡ Y.Surveyed s → Sound q t n s
+  sound-for s e = go (ledgerMalformed t n) refl (sym (survey-tests q t n) ∙ e)
+    where
+      go : (b : Bool) → ledgerMalformed t n ≡ b → if_then_else_ b Y.Malformed (Y.Surveyed (summaryFor q (linesOf n t))) ≡ Y.Surveyed s → Sound q t n s
+      go true p h = let z : _≡_ {A = ℕ} 0 1 = cc in absurd (omega arith)
+      go false p h = record { well = p; is = cc }
 
 pub survey-malformed : (t : List ℕ) (n : ℕ) → surveyOf t n ≡ Y.Malformed → ledgerMalformed t n ≡ true
-survey-malformed t n e = go (ledgerMalformed t n) (sym (survey-tests t n) ∙ e)
-  where
-    go : (b : Bool) → if_then_else_ b Y.Malformed (Y.Surveyed (summaryOf (linesOf n t))) ≡ Y.Malformed → b ≡ true
-    go true q = refl
-    go false q = let z : _≡_ {A = ℕ} 0 1 = cc in absurd (omega arith)
+survey-malformed = malformed-for S.Keep
 
-pub record Sound (t : List ℕ) (n : ℕ) (s : Summary) : Type 0 where
-  pub well : ledgerMalformed t n ≡ false
-  pub is : s ≡ summaryOf (linesOf n t)
+pub survey-sound : (t : List ℕ) (n : ℕ) (s : Summary) → surveyOf t n ≡ Y.Surveyed s → Sound S.Keep t n s
+survey-sound = sound-for S.Keep
 
-pub survey-sound : (t : List ℕ) (n : ℕ) (s : Summary) → surveyOf t n ≡ Y.Surveyed s → Sound t n s
-survey-sound t n s e = go (ledgerMalformed t n) refl (sym (survey-tests t n) ∙ e)
-  where
-    go : (b : Bool) → ledgerMalformed t n ≡ b → if_then_else_ b Y.Malformed (Y.Surveyed (summaryOf (linesOf n t))) ≡ Y.Surveyed s → Sound t n s
-    go true p q = let z : _≡_ {A = ℕ} 0 1 = cc in absurd (omega arith)
-    go false p q = record { well = p; is = cc }
+-- the last line that is looked for
+pub sought-is : {q : Sought} {t : List ℕ} {n : ℕ} {s : Summary} → Sound q t n s → s .sought ≡ lastStanding (isSought q) 0 (linesOf n t)
+unfolding summaryFor
+sought-is f = ap (λ (x : Summary). x .sought) (f .is)
 
 -- what it means that there is no refusal 20
 

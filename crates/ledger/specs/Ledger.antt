@@ -12,6 +12,8 @@ use Rattle.ledger.specs.declared.Kind.the-variants.{Keep}
 use Rattle.ledger.specs.declared.Line.{Line}
 use Rattle.ledger.specs.declared.Found.{Found}
 use Rattle.ledger.specs.declared.Found.the-variants.{At, Nothing}
+use Rattle.ledger.specs.declared.Sought.{Sought}
+use Rattle.ledger.specs.declared.Sought.the-variants as S
 use Rattle.ledger.specs.declared.Summary.{Summary}
 use Rattle.ledger.specs.declared.SurveyAnswer.{SurveyAnswer}
 use Rattle.ledger.specs.declared.SurveyAnswer.the-variants as Y
@@ -20,7 +22,7 @@ use Rattle.ledger.specs.declared.LedgerAnswer.the-variants as L
 use Rattle.ledger.specs.declared.PurgeAnswer.{PurgeAnswer}
 use Rattle.ledger.specs.declared.PurgeAnswer.the-variants as P
 use Rattle.ledger.specs.Lines.{linesOf, someMalformed, lineBytes}
-use Rattle.ledger.specs.Standing.{keeps, standing, overdrawn, lastStanding, anyLine}
+use Rattle.ledger.specs.Standing.{keeps, corrects, standing, overdrawn, lastStanding, anyLine}
 
 -- the lines that the bytes hold whole
 abbrev pub capacity : List ℕ → ℕ
@@ -35,14 +37,23 @@ ledgerMalformed t lines = ltb (capacity t) lines || (someMalformed lines t || ov
 abbrev pub ledgerFull : List ℕ → ℕ → Bool
 ledgerFull t lines = leb (capacity t) lines
 
--- the last line that stands, the last keep line that stands, and how many lines stand
-unfoldable pub summaryOf : List Line → Summary
-unfolding standing lastStanding
-summaryOf ls = record { last = lastStanding anyLine 0 ls; keep = lastStanding keeps 0 ls; count = length (standing ls) }
+-- whether a line is looked for
+abbrev pub isSought : Sought → Line → Bool
+isSought S.Keep l = keeps l
+isSought (S.Correction pixel) l = corrects pixel l
 
-unfoldable pub surveyOf : List ℕ → ℕ → SurveyAnswer
-unfolding ledgerMalformed linesOf summaryOf
-surveyOf t lines = if ledgerMalformed t lines then Y.Malformed else Y.Surveyed (summaryOf (linesOf lines t))
+-- the last line that stands, the last of those looked for that stands, and how many lines stand
+unfoldable pub summaryFor : Sought → List Line → Summary
+unfolding standing lastStanding
+summaryFor sought ls = record { last = lastStanding anyLine 0 ls; sought = lastStanding (isSought sought) 0 ls; count = length (standing ls) }
+
+unfoldable pub surveyFor : Sought → List ℕ → ℕ → SurveyAnswer
+unfolding ledgerMalformed linesOf summaryFor
+surveyFor sought t lines = if ledgerMalformed t lines then Y.Malformed else Y.Surveyed (summaryFor sought (linesOf lines t))
+
+-- with the last keep line
+abbrev pub surveyOf : List ℕ → ℕ → SurveyAnswer
+surveyOf t lines = surveyFor S.Keep t lines
 
 -- the bytes with the line written after the first `lines` lines
 unfoldable pub withLine : List ℕ → ℕ → Line → List ℕ

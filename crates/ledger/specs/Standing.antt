@@ -21,11 +21,20 @@ isKeep Correction = false
 isKeep Keep = true
 isKeep Withdrawal = false
 
+abbrev pub isCorrection : Kind → Bool
+isCorrection Correction = true
+isCorrection Keep = false
+isCorrection Withdrawal = false
+
 abbrev pub withdraws : Line → Bool
 withdraws l = isWithdrawal (l .kind)
 
 abbrev pub keeps : Line → Bool
 keeps l = isKeep (l .kind)
+
+-- a correction of this pixel
+abbrev pub corrects : ℕ → Line → Bool
+corrects pixel l = isCorrection (l .kind) && eqb (l .pixel) pixel
 
 -- counting on from so many withdrawals and so many other lines: withdrawals at some point outnumber the other lines
 unfoldable pub outnumbered : ℕ → ℕ → List Line → Bool

@@ -5,8 +5,8 @@ ghost use Prim.Native.Nat.{ℕ, _+_, _*_, _/_, _%_, _^_, _<_, _≤_};
 ghost use lib.ListN.{length, take, drop};
 ghost use Rattle.lists.specs.Bytes.{big, bigBytes};
 ghost use Rattle.ledger.specs.Lines.{kindNumber, kindFrom, isNoDate, noCounts, rightFor, fieldsOf, lineFrom, lineOf, lineNumber, bytesAt};
-ghost use Rattle.ledger.specs.Standing.{isWithdrawal, isKeep};
-ghost use Rattle.ledger.specs.Ledger.{surveyOf, withLine, appendAnswer, appendBytes, keepAnswer, keepBytes, purgeBy, purgeAnswer};
+ghost use Rattle.ledger.specs.Standing.{isWithdrawal, isKeep, isCorrection};
+ghost use Rattle.ledger.specs.Ledger.{isSought, surveyFor, surveyOf, withLine, appendAnswer, appendBytes, keepAnswer, keepBytes, purgeBy, purgeAnswer};
 ghost use Rattle.ledger.specs.Survey.{numberElse, scanBack, foundAt};
 use calendar::Date;
 use refusal::Refusal;
@@ -37,10 +37,16 @@ pub enum Found {
     Nothing,
 }
 
-// Of the lines that stand: the last, the last keep line, and how many they are.
+// What is looked for among the lines that stand: a keep line, or a correction of a pixel.
+pub enum Sought {
+    Keep,
+    Correction { pixel: u64 },
+}
+
+// Of the lines that stand: the last, the last of those that are looked for, and how many they are.
 pub struct Summary {
     pub last: Found,
-    pub keep: Found,
+    pub sought: Found,
     pub count: usize,
 }
 
@@ -64,7 +70,7 @@ struct Scan {
     pub skip: usize,
     pub count: usize,
     pub last: usize,
-    pub keep: usize,
+    pub sought: usize,
 }
 
 // The lowest bit of each field: in the high word, then in the low word.
@@ -274,6 +280,16 @@ fn is_keep(kind: Kind) -> bool
     }
 }
 
+fn is_correction(kind: Kind) -> bool
+    ensures { λ r. ⌜ r ≡ isCorrection kind ⌝ }
+{
+    match kind {
+        Kind::Correction => true,
+        Kind::Keep => false,
+        Kind::Withdrawal => false,
+    }
+}
+
 pub fn is_withdrawal(kind: Kind) -> bool
     ensures { λ r. ⌜ r ≡ isWithdrawal kind ⌝ }
 {
@@ -284,17 +300,33 @@ pub fn is_withdrawal(kind: Kind) -> bool
     }
 }
 
-// One line further back.
-fn scan_back(s: Scan, index: usize, kind: Kind) -> Scan
-    requires { ⌜ (s .skip + 1 < 2 ^ 64) × (s .count + 1 < 2 ^ 64) × (index + 1 < 2 ^ 64) ⌝ }
-    ensures { λ r. ⌜ r ≡ scanBack s index kind ⌝ }
+fn is_sought(sought: Sought, line: Line) -> bool
+    ensures { λ r. ⌜ r ≡ isSought sought line ⌝ }
 {
+    let kind = line.kind;
+    match sought {
+        Sought::Keep => is_keep(kind),
+        Sought::Correction { pixel } => {
+            if is_correction(kind) {
+                return line.pixel as u64 == pixel;
+            }
+            false
+        }
+    }
+}
+
+// One line further back.
+fn scan_back(s: Scan, index: usize, line: Line, sought: Sought) -> Scan
+    requires { ⌜ (s .skip + 1 < 2 ^ 64) × (s .count + 1 < 2 ^ 64) × (index + 1 < 2 ^ 64) ⌝ }
+    ensures { λ r. ⌜ r ≡ scanBack s index line sought ⌝ }
+{
+    let kind = line.kind;
     if is_withdrawal(kind) {
         return Scan {
             skip: s.skip + 1,
             count: s.count,
             last: s.last,
-            keep: s.keep,
+            sought: s.sought,
         };
     }
     if 0 < s.skip {
@@ -302,23 +334,23 @@ fn scan_back(s: Scan, index: usize, kind: Kind) -> Scan
             skip: s.skip - 1,
             count: s.count,
             last: s.last,
-            keep: s.keep,
+            sought: s.sought,
         };
     }
     let last = or_else(s.last, index);
-    if is_keep(kind) {
+    if is_sought(sought, line) {
         return Scan {
             skip: 0,
             count: s.count + 1,
             last,
-            keep: or_else(s.keep, index),
+            sought: or_else(s.sought, index),
         };
     }
     Scan {
         skip: 0,
         count: s.count + 1,
         last,
-        keep: s.keep,
+        sought: s.sought,
     }
 }
 
@@ -336,9 +368,9 @@ fn found_at(ledger: &[u8], number: usize) -> Found
     Found::At { index, line }
 }
 
-// What stands of the first `lines` lines, in one pass from the last to the first.
-pub fn survey(ledger: &[u8], lines: u64) -> SurveyAnswer
-    ensures { λ r. ⌜ r ≡ surveyOf (now (ledger .entry)) lines ⌝ }
+// What stands of the first `lines` lines, and the last that is looked for, in one pass from the last to the first.
+pub fn survey_for(ledger: &[u8], lines: u64, sought: Sought) -> SurveyAnswer
+    ensures { λ r. ⌜ r ≡ surveyFor sought (now (ledger .entry)) lines ⌝ }
 {
     if ((ledger.len() / 16) as u64) < lines {
         return SurveyAnswer::Malformed;
@@ -347,7 +379,7 @@ pub fn survey(ledger: &[u8], lines: u64) -> SurveyAnswer
         skip: 0,
         count: 0,
         last: 0,
-        keep: 0,
+        sought: 0,
     };
     let mut i = lines as usize;
     while 0 < i {
@@ -355,17 +387,23 @@ pub fn survey(ledger: &[u8], lines: u64) -> SurveyAnswer
         let LineAnswer::WellFormed(line) = line_at(ledger, i) else {
             return SurveyAnswer::Malformed;
         };
-        let kind = line.kind;
-        s = scan_back(s, i, kind);
+        s = scan_back(s, i, line, sought);
     }
     if 0 < s.skip {
         return SurveyAnswer::Malformed;
     }
     SurveyAnswer::Surveyed(Summary {
         last: found_at(ledger, s.last),
-        keep: found_at(ledger, s.keep),
+        sought: found_at(ledger, s.sought),
         count: s.count,
     })
+}
+
+// What stands of the first `lines` lines, and the last keep line.
+pub fn survey(ledger: &[u8], lines: u64) -> SurveyAnswer
+    ensures { λ r. ⌜ r ≡ surveyOf (now (ledger .entry)) lines ⌝ }
+{
+    survey_for(ledger, lines, Sought::Keep)
 }
 
 // Writes one line more.
@@ -424,6 +462,6 @@ pub fn may_purge(ledger: &[u8], lines: u64, day: Date) -> PurgeAnswer
     if !calendar::is_date(day) {
         return PurgeAnswer::Refused(Refusal::NotADate);
     }
-    let last = summary.keep;
+    let last = summary.sought;
     purge_by(day, last)
 }

@@ -2,14 +2,24 @@
 use ledger::LedgerAnswer;
 use ledger::PurgeAnswer;
 use listing::ListAnswer;
+use refusal::Refusal;
+use why::DayAnswer;
+use why::PixelAnswer;
 ghost use mathlib.Core.Path.{_≡_};
-ghost use Rattle.ledger_report.specs.Report.{ledgerResult, purgeResult, listResult};
+ghost use Rattle.ledger_report.specs.Report.{ledgerResult, purgeResult, dayResult, pixelResult, listResult};
 
 // refusal is 0 where the call is accepted.
 #[repr(C)]
 pub struct LedgerResult {
     pub refusal: u32,
     pub lines: u64,
+}
+
+// line is 0 where no line is named.
+#[repr(C)]
+pub struct WhyResult {
+    pub refusal: u32,
+    pub line: u64,
 }
 
 #[repr(C)]
@@ -41,6 +51,46 @@ pub fn purge_result(answer: PurgeAnswer) -> u32
     match answer {
         PurgeAnswer::Allowed => 0,
         PurgeAnswer::Refused(r) => refusal::number_of(r),
+    }
+}
+
+// The number of the keep line that decides, with 0 where the frame may be purged and 27 where it may not yet.
+pub fn day_result(answer: DayAnswer) -> WhyResult
+    ensures { λ r. ⌜ r ≡ dayResult answer ⌝ }
+{
+    match answer {
+        DayAnswer::Allowed(decides) => WhyResult {
+            refusal: 0,
+            line: decides.number,
+        },
+        DayAnswer::NotYet(decides) => WhyResult {
+            refusal: refusal::number_of(Refusal::NotYet),
+            line: decides.number,
+        },
+        DayAnswer::Refused(r) => WhyResult {
+            refusal: refusal::number_of(r),
+            line: 0,
+        },
+    }
+}
+
+// The number of the correction that set a pixel.
+pub fn pixel_result(answer: PixelAnswer) -> WhyResult
+    ensures { λ r. ⌜ r ≡ pixelResult answer ⌝ }
+{
+    match answer {
+        PixelAnswer::Corrected(decides) => WhyResult {
+            refusal: 0,
+            line: decides.number,
+        },
+        PixelAnswer::AsOpened => WhyResult {
+            refusal: 0,
+            line: 0,
+        },
+        PixelAnswer::Refused(r) => WhyResult {
+            refusal: refusal::number_of(r),
+            line: 0,
+        },
     }
 }
 

@@ -13,8 +13,9 @@ use Rattle.lists.specs.Choose.{if_then_else_}
 use Rattle.ledger.specs.declared.Line.{Line}
 use Rattle.ledger.specs.Lines.{linesOf}
 use Rattle.ledger.specs.Standing.{withdraws, cancelled, standing}
+use Rattle.ledger.specs.declared.Sought.{Sought}
 use Rattle.ledger.specs.declared.Summary.{Summary}
-use Rattle.ledger.specs.Ledger.{capacity, ledgerMalformed, summaryOf}
+use Rattle.ledger.specs.Ledger.{capacity, ledgerMalformed, summaryFor}
 use Rattle.ledger.proofs.StandingLaws.{standing-small}
 use Rattle.ledger.proofs.Scanning.{length-lines, Sound}
 use Rattle.listing.specs.declared.ListAnswer.the-variants.{Listed, TooShort}
@@ -126,9 +127,9 @@ used-fits t lent used e = go (ltb lent (listingRoom t)) refl (e ∙ answer-is t 
 
 -- the count of a survey
 
-pub count-is : {t : List ℕ} {n : ℕ} {s : Summary} → Sound t n s → s .count ≡ length (standing (linesOf n t))
-unfolding summaryOf
+pub count-is : {q : Sought} {t : List ℕ} {n : ℕ} {s : Summary} → Sound q t n s → s .count ≡ length (standing (linesOf n t))
+unfolding summaryFor
 count-is f = ap (λ (x : Summary). x .count) (f .is)
 
-pub count-small : {t : List ℕ} {n : ℕ} {s : Summary} → Sound t n s → s .count ≤ n
-count-small {t} {n} {s} f = omega (arith, count-is f, standing-small (linesOf n t), length-lines n t)
+pub count-small : {q : Sought} {t : List ℕ} {n : ℕ} {s : Summary} → Sound q t n s → s .count ≤ n
+count-small {q} {t} {n} {s} f = omega (arith, count-is f, standing-small (linesOf n t), length-lines n t)

@@ -8,6 +8,7 @@ use frame_report::WriteResult;
 use header_report::HeaderReport;
 use ledger_report::LedgerResult;
 use ledger_report::ListResult;
+use ledger_report::WhyResult;
 use mar_report::MarEntryResult;
 ghost use mathlib.Core.Path.{_≡_};
 ghost use lib.ListN.{length};
@@ -17,6 +18,7 @@ ghost use Rattle.reader.specs.Reader.{readAnswer, readPixels};
 ghost use Rattle.ledger.specs.Ledger.{keepAnswer, keepBytes, purgeAnswer};
 ghost use Rattle.listing.specs.Listing.{listAnswer, listBytes};
 ghost use Rattle.compaction.specs.Compact.{compactAnswer, compactBytes};
+ghost use Rattle.why.specs.Why.{dayReason, pixelReason};
 ghost use Rattle.writer.specs.Writer.{writeAnswer, writeBytes};
 ghost use Rattle.mar_image.specs.MarImage.{marAnswer, marPixels};
 ghost use Rattle.mar_entry.specs.Entry.{entryOf};
@@ -27,7 +29,7 @@ ghost use Rattle.dtrek_report.specs.Item.{dtrekItem};
 ghost use Rattle.opening.specs.Open.{openAnswer, openPixels, openHeld};
 ghost use Rattle.archive.specs.Calls.{correctOutcome, withdrawOutcome, amendOutcome};
 ghost use Rattle.frame_report.specs.Report.{readResult, askedForm, writeResult, openResult};
-ghost use Rattle.ledger_report.specs.Report.{ledgerResult, purgeResult, listResult};
+ghost use Rattle.ledger_report.specs.Report.{ledgerResult, purgeResult, dayResult, pixelResult, listResult};
 ghost use Rattle.mar_report.specs.Report.{marReadResult, marEntryResult};
 ghost use Rattle.quayrudder.specs.Date.{date};
 
@@ -205,6 +207,28 @@ pub extern "C" fn qr_may_purge(ledger: &[u8], lines: u64, year: u32, month: u32,
     ensures { λ r. ⌜ r ≡ purgeResult (purgeAnswer (now (ledger .entry)) lines (date year month day)) ⌝ }
 {
     ledger_report::purge_result(ledger::may_purge(ledger, lines, Date { year, month, day }))
+}
+
+// The purge question with the line that decides it.
+#[no_mangle]
+pub extern "C" fn qr_why_day(
+    ledger: &[u8],
+    lines: u64,
+    year: u32,
+    month: u32,
+    day: u32,
+) -> WhyResult
+    ensures { λ r. ⌜ r ≡ dayResult (dayReason (now (ledger .entry)) lines (date year month day)) ⌝ }
+{
+    ledger_report::day_result(why::day_reason(ledger, lines, Date { year, month, day }))
+}
+
+// The line that set a pixel, if one did.
+#[no_mangle]
+pub extern "C" fn qr_why_pixel(ledger: &[u8], lines: u64, pixel: u64) -> WhyResult
+    ensures { λ r. ⌜ r ≡ pixelResult (pixelReason (now (ledger .entry)) lines pixel) ⌝ }
+{
+    ledger_report::pixel_result(why::pixel_reason(ledger, lines, pixel))
 }
 
 // The listing of a ledger, at the end of the buffer.

@@ -1,7 +1,8 @@
+use Rattle.ledger.proofs.Scanning.{survey-malformed}
 use mathlib.Core.Path.{_≡_, sym, ap, _∙_}
 use Rattle.ledger.specs.declared.LedgerAnswer.the-variants as L
 use Rattle.archive.specs.Calls.{Outcome}
-use Rattle.archive.proofs.Changes.{answer-of, held-of, ledger-of, surveyed, malformed, amend-malformed, amend-nothing, amend-correction, amend-keep, amend-other}
+use Rattle.archive.proofs.Changes.{answer-of, held-of, ledger-of, surveyed, amend-malformed, amend-nothing, amend-correction, amend-keep, amend-other}
 use borrow.Author.Needs.{needs}
 use Rattle.archive.proofs.amend.Statement.{statement}
 use Rattle.archive.proofs.amend.Tie as tie
@@ -25,7 +26,7 @@ same-length-2 : tie.Need-same-length-2
 same-length-2 c = search needs
 
 returns : tie.Need-returns
-returns c = (ap L.Refused (c .held-refusal .ensures) ∙ answer-of (amend-malformed _ _ _ _ (malformed _ _ (sym (c .before .before .before .before .survey .ensures) ∙ c .before .before .enum-told .given .1))), (held-of (amend-malformed _ _ _ _ (malformed _ _ (sym (c .before .before .before .before .survey .ensures) ∙ c .before .before .enum-told .given .1))), ledger-of (amend-malformed _ _ _ _ (malformed _ _ (sym (c .before .before .before .before .survey .ensures) ∙ c .before .before .enum-told .given .1)))))
+returns c = (ap L.Refused (c .held-refusal .ensures) ∙ answer-of (amend-malformed _ _ _ _ (survey-malformed _ _ (sym (c .before .before .before .before .survey .ensures) ∙ c .before .before .enum-told .given .1))), (held-of (amend-malformed _ _ _ _ (survey-malformed _ _ (sym (c .before .before .before .before .survey .ensures) ∙ c .before .before .enum-told .given .1))), ledger-of (amend-malformed _ _ _ _ (survey-malformed _ _ (sym (c .before .before .before .before .survey .ensures) ∙ c .before .before .enum-told .given .1)))))
 
 enum-known-last : tie.Need-enum-known-last
 enum-known-last c = search needs

@@ -1,4 +1,5 @@
-use Rattle.archive.proofs.Changes.{answer-of, held-of, ledger-of, changing-refused, changing-done, changing-full, correct-malformed, correct-is, surveyed, malformed}
+use Rattle.ledger.proofs.Scanning.{survey-malformed}
+use Rattle.archive.proofs.Changes.{answer-of, held-of, ledger-of, changing-refused, changing-done, changing-full, correct-malformed, correct-is, surveyed}
 use Rattle.ledger.proofs.Appending.{appended-answer, appended-bytes}
 use Rattle.replacement.specs.declared.Expected.the-variants.{Any}
 use Rattle.ledger.specs.declared.LedgerAnswer.the-variants as L
@@ -38,7 +39,7 @@ same-length-2 : tie.Need-same-length-2
 same-length-2 c = search needs
 
 returns : tie.Need-returns
-returns c = (ap L.Refused (c .held-refusal .ensures) ∙ answer-of (correct-malformed _ _ _ (malformed _ _ (sym (c .before .before .before .before .survey .ensures) ∙ c .before .before .enum-told2 .given .1)) _ _), (held-of (correct-malformed _ _ _ (malformed _ _ (sym (c .before .before .before .before .survey .ensures) ∙ c .before .before .enum-told2 .given .1)) _ _), ledger-of (correct-malformed _ _ _ (malformed _ _ (sym (c .before .before .before .before .survey .ensures) ∙ c .before .before .enum-told2 .given .1)) _ _)))
+returns c = (ap L.Refused (c .held-refusal .ensures) ∙ answer-of (correct-malformed _ _ _ (survey-malformed _ _ (sym (c .before .before .before .before .survey .ensures) ∙ c .before .before .enum-told2 .given .1)) _ _), (held-of (correct-malformed _ _ _ (survey-malformed _ _ (sym (c .before .before .before .before .survey .ensures) ∙ c .before .before .enum-told2 .given .1)) _ _), ledger-of (correct-malformed _ _ _ (survey-malformed _ _ (sym (c .before .before .before .before .survey .ensures) ∙ c .before .before .enum-told2 .given .1)) _ _)))
 
 is-full-requires : tie.Need-is-full-requires
 is-full-requires c κs = search needs

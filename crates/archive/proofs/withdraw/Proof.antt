@@ -1,7 +1,8 @@
+use Rattle.ledger.proofs.Scanning.{survey-malformed}
 use Rattle.ledger.specs.declared.LedgerAnswer.the-variants as L
 use Rattle.refusal.specs.declared.Refusal.the-variants as R
 use Rattle.archive.specs.Calls.{Outcome}
-use Rattle.archive.proofs.Changes.{answer-of, held-of, ledger-of, withdraw-malformed, withdraw-nothing, withdraw-correction, withdraw-keep, withdraw-other, keep-same, surveyed, malformed}
+use Rattle.archive.proofs.Changes.{answer-of, held-of, ledger-of, withdraw-malformed, withdraw-nothing, withdraw-correction, withdraw-keep, withdraw-other, keep-same, surveyed}
 use mathlib.Core.Path.{sym, ap, _∙_}
 use borrow.Author.Needs.{needs}
 use Rattle.archive.proofs.withdraw.Statement.{statement}
@@ -32,7 +33,7 @@ same-length-2 : tie.Need-same-length-2
 same-length-2 c = search needs
 
 returns : tie.Need-returns
-returns c = (ap L.Refused (c .held-refusal .ensures) ∙ answer-of (withdraw-malformed _ _ _ (malformed _ _ (sym (c .before .before .before .before .survey .ensures) ∙ c .before .before .enum-told .given .1))), (held-of (withdraw-malformed _ _ _ (malformed _ _ (sym (c .before .before .before .before .survey .ensures) ∙ c .before .before .enum-told .given .1))), ledger-of (withdraw-malformed _ _ _ (malformed _ _ (sym (c .before .before .before .before .survey .ensures) ∙ c .before .before .enum-told .given .1)))))
+returns c = (ap L.Refused (c .held-refusal .ensures) ∙ answer-of (withdraw-malformed _ _ _ (survey-malformed _ _ (sym (c .before .before .before .before .survey .ensures) ∙ c .before .before .enum-told .given .1))), (held-of (withdraw-malformed _ _ _ (survey-malformed _ _ (sym (c .before .before .before .before .survey .ensures) ∙ c .before .before .enum-told .given .1))), ledger-of (withdraw-malformed _ _ _ (survey-malformed _ _ (sym (c .before .before .before .before .survey .ensures) ∙ c .before .before .enum-told .given .1)))))
 
 enum-known-last : tie.Need-enum-known-last
 enum-known-last c = search needs

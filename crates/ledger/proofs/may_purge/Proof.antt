@@ -1,6 +1,5 @@
-use Rattle.ledger.proofs.Scanning.{survey-malformed, survey-sound}
-use Rattle.ledger.specs.declared.Summary.{Summary}
-use Rattle.ledger.specs.Ledger.{purgeAnswer, purgeBy, summaryOf}
+use Rattle.ledger.proofs.Scanning.{survey-malformed, survey-sound, sought-is}
+use Rattle.ledger.specs.Ledger.{purgeAnswer, purgeBy}
 use mathlib.Core.Path.{sym, ap, _∙_}
 use borrow.Author.Needs.{needs}
 use Rattle.ledger.proofs.may_purge.Statement.{statement}
@@ -32,10 +31,10 @@ purge-by-requires : tie.Need-purge-by-requires
 purge-by-requires c κs = search needs
 
 returns-3 : tie.Need-returns-3
-unfolding purgeAnswer summaryOf
+unfolding purgeAnswer
 returns-3 c =
     let s = survey-sound _ _ _ (sym (c .before .before .before .before .before .before .survey .ensures) ∙ c .before .before .before .before .summary .given .1) in
-    rw (s .well, ← c .before .before .is-date .ensures, c .before .if1 .left) (c .purge-by .ensures ∙ ap (λ (x : Summary). purgeBy (c .before .before .before .before .before .before .before .before .args .day) (x .keep)) (s .is))
+    rw (s .well, ← c .before .before .is-date .ensures, c .before .if1 .left) (c .purge-by .ensures ∙ ap (purgeBy (c .before .before .before .before .before .before .before .before .args .day)) (sought-is s))
 
 pub may-purge-spec : {M : Type 1} → statement M
 may-purge-spec =

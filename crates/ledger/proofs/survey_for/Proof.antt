@@ -3,20 +3,20 @@ use borrow.Author.Needs.{needs}
 use native.Mathlib.Omega.{arith}
 use Prim.Native.Nat.{ℕ, _-_}
 use mathlib.Core.Path.{sym, _∙_}
-use Rattle.ledger.proofs.survey.Statement.{statement}
-use Rattle.ledger.proofs.survey.Tie as tie
+use Rattle.ledger.proofs.survey_for.Statement.{statement}
+use Rattle.ledger.proofs.survey_for.Tie as tie
 
 abbrev Inv-loop : tie.InvT-loop
-Inv-loop ledger lines s₀ i₀ s i = Surveying ledger lines i s
+Inv-loop ledger lines sought s₀ i₀ s i = Surveying sought ledger lines i s
 
 abbrev μ-loop : tie.MeasureT-loop
-μ-loop ledger lines s₀ i₀ s i = i
+μ-loop ledger lines sought s₀ i₀ s i = i
 
 returns : tie.Need-returns Inv-loop μ-loop
-returns c = survey-refused _ _ (claimed-more _ _ (c .if1 .taken))
+returns c = survey-refused _ _ _ (claimed-more _ _ (c .if1 .taken))
 
 loop-holds : tie.Need-loop-holds Inv-loop μ-loop
-loop-holds c = surveying-start _ _
+loop-holds c = surveying-start _ _ _
 
 sub-i : tie.Need-sub-i Inv-loop μ-loop
 sub-i c = omega arith
@@ -34,7 +34,7 @@ returns-2 : tie.Need-returns-2 Inv-loop μ-loop
 returns-2 c =
     let f = c .before .before .before .before .loop .inv in
     let j : ℕ = c .before .before .before .before .loop .i - 1 in
-    survey-refused _ _ (surveying-bad f j (omega arith) (sym (c .before .before .line-at .ensures) ∙ c .enum-told .given .1))
+    survey-refused _ _ _ (surveying-bad f j (omega arith) (sym (c .before .before .line-at .ensures) ∙ c .enum-told .given .1))
 
 scan-back-requires : tie.Need-scan-back-requires Inv-loop μ-loop
 scan-back-requires c κs =
@@ -52,7 +52,7 @@ loop-again c =
 returns-3 : tie.Need-returns-3 Inv-loop μ-loop
 returns-3 c =
     let f = c .before .before .before .loop .inv in
-    survey-refused _ _ (surveying-over f (omega arith) (omega arith) (c .if2 .taken))
+    survey-refused _ _ _ (surveying-over f (omega arith) (omega arith) (c .if2 .taken))
 
 found-at-requires : tie.Need-found-at-requires Inv-loop μ-loop
 found-at-requires c κs = search needs
@@ -65,8 +65,8 @@ returns-4 c =
     let f = c .before .before .before .before .before .loop .inv in
     rw (c .before .found-at .ensures, c .found-at2 .ensures) (surveying-done f (omega arith) (omega arith) (c .before .before .if2 .left))
 
-pub survey-spec : {M : Type 1} → statement M
-survey-spec =
+pub survey-for-spec : {M : Type 1} → statement M
+survey-for-spec =
     tie.close
     (tie.spec
     Inv-loop
