@@ -234,7 +234,7 @@ compact-step : (s : State) → step compact s ≡ after (s .lines) (compactAnswe
 unfolding step
 compact-step s = refl
 
-compacted-equivalent : (s : State) → Equivalent s (step compact s .state)
+pub compacted-equivalent : (s : State) → Equivalent s (step compact s .state)
 compacted-equivalent s = rw (compact-step s, compact-answer (s .ledger) (s .lines), compact-bytes (s .ledger) (s .lines)) (go (ledgerMalformed (s .ledger) (s .lines)) refl)
   where
     go : (b : Bool) → ledgerMalformed (s .ledger) (s .lines) ≡ b

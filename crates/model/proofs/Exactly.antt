@@ -96,15 +96,20 @@ module _ (bytes pixels held ledger : List ℕ) (form : Form) (rows columns end n
   abbrev pub later : State
   later = run step cs (openedState bytes pixels form held ledger) .state
 
-  module _ (P : State → Type 0) where
-    pub by-same : ((o : Opening) (few : length (o .pixels) ≤ 2 ^ 24) (given : Given o)
-        (f : List ℕ) (ls : Ledger) (es : List Entry) → Same o few given f ls es → P (stateAt o few given f ls)) → P later
+  -- what holds wherever bytes and model are the same holds then, of what the opening feeds the model and of the state
+  module _ (P : Opening → State → Type 0) where
+    pub by-opening : ((o : Opening) (few : length (o .pixels) ≤ 2 ^ 24) (given : Given o)
+        (f : List ℕ) (ls : Ledger) (es : List Entry) → Same o few given f ls es → P o (stateAt o few given f ls)) → P (openingOf bytes pixels form held ledger) later
     unfolding openingOf
-    by-same k =
+    by-opening k =
         let s = start bytes pixels held ledger form rows columns end byte n opened in
         let o : Opening = openingOf bytes pixels form held ledger in
         let r = runs-agree o (s .few) (s .given) cs counted (s .frame) (emptyLedger ledger) [] (first o ledger refl s) in
-        subst P (sym (ap (λ (x : State). run step cs x .state) (at-first o ledger refl s) ∙ r .state)) (k o (s .few) (s .given) (r .frame) (r .ledger) (r .entries) (r .same))
+        subst (P o) (sym (ap (λ (x : State). run step cs x .state) (at-first o ledger refl s) ∙ r .state)) (k o (s .few) (s .given) (r .frame) (r .ledger) (r .entries) (r .same))
+
+  pub by-same : (P : State → Type 0) → ((o : Opening) (few : length (o .pixels) ≤ 2 ^ 24) (given : Given o)
+      (f : List ℕ) (ls : Ledger) (es : List Entry) → Same o few given f ls es → P (stateAt o few given f ls)) → P later
+  by-same P = by-opening (λ o. P)
 
   -- A withdrawal is refused exactly if no line stands or the ledger is full.
   pub withdrawal-refused : isAccepted (step withdraw later .reply .answer)

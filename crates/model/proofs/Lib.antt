@@ -11,3 +11,4 @@ pub mod Prefix
 pub mod Amended
 pub mod Compacted
 pub mod Behind
+pub mod Reasons

@@ -1,15 +1,24 @@
--- What requests A6 and A8 ask besides demand 3. proofs/Amended.antt, Compacted.antt and Behind.antt prove these statements.
-use Prim.Native.Nat.{ℕ, _+_, _*_, _<_}
+-- What requests A6, A8 and A11 ask besides demand 3. proofs/Amended.antt, Compacted.antt, Behind.antt and Reasons.antt prove these statements.
+use Prim.Native.Nat.{ℕ, zero, suc, _+_, _*_, _<_}
 use mathlib.Core.Path.{_≡_}
 use mathlib.Core.Bool.{Bool, true, false}
 use mathlib.Core.List.{List, [], _∷_, map}
-use lib.ListN.{length, drop}
+use lib.ListN.{length, getD, drop}
 use Rattle.refusal.specs.declared.Refusal.the-variants as R
 use Rattle.calendar.specs.declared.Date.{Date}
 use Rattle.ledger.specs.declared.Line.{Line}
 use Rattle.ledger.specs.declared.Found.the-variants.{At}
 use Rattle.ledger.specs.Lines.{linesOf}
-use Rattle.ledger.specs.Standing.{lastStanding, anyLine}
+use Rattle.ledger.specs.Standing.{keeps, corrects, lastStanding, anyLine}
+use Rattle.ledger.specs.Ledger.{ledgerMalformed}
+use Rattle.readback.specs.Held.{heldPixels}
+use Rattle.why.specs.declared.Numbered.{Numbered}
+use Rattle.why.specs.declared.DayAnswer.{DayAnswer}
+use Rattle.why.specs.declared.DayAnswer.the-variants as D
+use Rattle.why.specs.declared.PixelAnswer.{PixelAnswer}
+use Rattle.why.specs.declared.PixelAnswer.the-variants as P
+use Rattle.why.specs.Why.{dayReason, pixelReason}
+use Rattle.why.specs.Theorems.{dayNames, pixelNames, numberIn, standsAt}
 use Rattle.model.specs.Model.{Call, correct, keep, withdraw, amend, compact, mayPurge, Answer, accepted, refused, Reply, Ran, run, Entry, corrected, Model, Opening, emptyModel, modelStep}
 use Rattle.model.specs.Ledger.{Ledger, emptyLedger, ledgerRun}
 use Rattle.model.specs.Run.{State, step}
@@ -82,3 +91,68 @@ abbrev pub BehindStays : Type 0
 BehindStays =
     (o : Opening) (before : List ℕ) (cs : List Call) → NeverCompact cs
     → (let g = ledgerRun o cs emptyModel (emptyLedger before) in g .behind ≡ drop (length (g .lines) * 16) before)
+
+-- A11: what the ledger of a state answers, and its lines
+abbrev pub dayAt : Date → State → DayAnswer
+dayAt day s = dayReason (s .ledger) (s .lines) day
+
+abbrev pub pixelAt : ℕ → State → PixelAnswer
+pixelAt pixel s = pixelReason (s .ledger) (s .lines) pixel
+
+abbrev pub linesAt : State → List Line
+linesAt s = linesOf (s .lines) (s .ledger)
+
+-- so many withdrawals, each one accepted
+abbrev pub withdrawals : ℕ → List Call
+withdrawals zero = []
+withdrawals (suc count) = withdraw ∷ withdrawals count
+
+abbrev pub AllAccepted : List Reply → Type 0
+AllAccepted [] = Unit {0}
+AllAccepted (r ∷ rs) = (r .answer ≡ accepted) × AllAccepted rs
+
+-- On real bytes, of every held buffer, ledger and number of lines: once withdrawals, each one accepted, have taken the line that was named, an earlier line is
+-- named, or none, and 20 is not due.
+abbrev pub NamedEarlier : (Line → Bool) → (State → List Numbered) → Type 0
+NamedEarlier test named =
+    (s : State) (d : Numbered) (index count : ℕ) → named s ≡ d ∷ [] → d .number ≡ suc index
+    → (let ran = run step (withdrawals count) s in
+    AllAccepted (ran .replies) → standsAt test index (linesAt (ran .state)) ≡ false
+    → (ledgerMalformed (ran .state .ledger) (ran .state .lines) ≡ false) × (numberIn (named (ran .state)) < d .number))
+
+abbrev pub DayEarlier : Type 0
+DayEarlier = (day : Date) → NamedEarlier keeps (λ (s : State). dayNames (dayAt day s))
+
+abbrev pub PixelEarlier : Type 0
+PixelEarlier = (pixel : ℕ) → NamedEarlier (corrects pixel) (λ (s : State). pixelNames (pixelAt pixel s))
+
+-- After compaction both questions are answered as before, by the same line, whose number alone may be another.
+abbrev pub unnumbered : Numbered → Numbered
+unnumbered d = record { number = 0; line = d .line }
+
+abbrev pub dayUnnumbered : DayAnswer → DayAnswer
+dayUnnumbered (D.Allowed d) = D.Allowed (unnumbered d)
+dayUnnumbered (D.NotYet d) = D.NotYet (unnumbered d)
+dayUnnumbered (D.Refused r) = D.Refused r
+
+abbrev pub pixelUnnumbered : PixelAnswer → PixelAnswer
+pixelUnnumbered (P.Corrected d) = P.Corrected (unnumbered d)
+pixelUnnumbered P.AsOpened = P.AsOpened
+pixelUnnumbered (P.Refused r) = P.Refused r
+
+abbrev pub ReasonsUnobservable : Type 0
+ReasonsUnobservable =
+    (s : State)
+    → ((day : Date) → dayUnnumbered (dayAt day (step compact s .state)) ≡ dayUnnumbered (dayAt day s))
+    × ((pixel : ℕ) → pixelUnnumbered (pixelAt pixel (step compact s .state)) ≡ pixelUnnumbered (pixelAt pixel s))
+
+-- the count that an answer for a pixel says it has: the new one of the correction named, or the opened one
+abbrev pub countSaid : PixelAnswer → ℕ → List ℕ
+countSaid (P.Corrected d) opened = d .line .new ∷ []
+countSaid P.AsOpened opened = opened ∷ []
+countSaid (P.Refused r) opened = []
+
+-- each pixel of the held frame has the count that its answer says; where the opened pixels are these
+abbrev pub CountsExplained : List ℕ → State → Type 0
+CountsExplained opened s =
+    (pixel : ℕ) → pixel < length opened → countSaid (pixelAt pixel s) (getD opened pixel 0) ≡ getD (heldPixels (s .held)) pixel 0 ∷ []
