@@ -1,5 +1,4 @@
--- Document 01, "The ledger": a line is 16 bytes, fields from the most significant bit:
--- kind 2, year 12, month 4, day 5, pixel 24, old 32, new 32, spare 17.
+-- Document 01, "The ledger": a line's 128 bits from the highest down, 2 of the kind, 12, 4 and 5 of the date, 24 of the pixel, 32 each of the old and the new count, 17 spare.
 use Prim.Native.Nat.{ℕ, zero, suc, _+_, _*_, _/_, _%_, _^_}
 use mathlib.Core.Bool.{Bool, true, false, _&&_, _||_}
 use mathlib.Core.List.{List, [], _∷_, _++_}

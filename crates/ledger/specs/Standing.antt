@@ -36,7 +36,7 @@ keeps l = isKeep (l .kind)
 abbrev pub corrects : ℕ → Line → Bool
 corrects pixel l = isCorrection (l .kind) && eqb (l .pixel) pixel
 
--- counting on from so many withdrawals and so many other lines: withdrawals at some point outnumber the other lines
+-- counting on from so many withdrawals and so many other lines: somewhere there have been more of the first
 unfoldable pub outnumbered : ℕ → ℕ → List Line → Bool
 outnumbered withdrawals others [] = false
 outnumbered withdrawals others (l ∷ ls) =

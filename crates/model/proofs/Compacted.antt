@@ -65,12 +65,16 @@ follows-full g h x₁ x₂ y₁ y₂ false c e f k n = rw (f refl) (k refl n)
 follows-at : {q r q₁ r₁ : Step State} → q ≡ q₁ → r ≡ r₁ → Follows q₁ r₁ → Follows q r
 follows-at e f k = rw (e, f) k
 
+-- what does not ask for the index of a line that was found says the same where the line is the same
+pub same-found : {A : Type 0} (by : Found → A) (line : Line → A) → ((i : ℕ) (l : Line) → by (At i l) ≡ line l) → (f g : Found) → foundLines g ≡ foundLines f → by g ≡ by f
+same-found by line k Nothing Nothing e = refl
+same-found by line k (At i l) (At j x) e = let q : x ≡ l = cc in k j x ∙ ap line q ∙ sym (k i l)
+same-found by line k Nothing (At j x) e = let z : _≡_ {A = ℕ} 0 1 = cc in absurd (omega arith)
+same-found by line k (At i l) Nothing e = let z : _≡_ {A = ℕ} 0 1 = cc in absurd (omega arith)
+
 purge-by-lines : (d : Date) (f g : Found) → foundLines g ≡ foundLines f → purgeBy d g ≡ purgeBy d f
 unfolding purgeBy
-purge-by-lines d Nothing Nothing e = refl
-purge-by-lines d (At i l) (At j x) e = let q : x ≡ l = cc in rw q
-purge-by-lines d Nothing (At j x) e = let z : _≡_ {A = ℕ} 0 1 = cc in absurd (omega arith)
-purge-by-lines d (At i l) Nothing e = let z : _≡_ {A = ℕ} 0 1 = cc in absurd (omega arith)
+purge-by-lines d = same-found (purgeBy d) (λ l. purgeBy d (At 0 l)) (λ i l. refl)
 
 -- the purge question is the same, of any two such ledgers
 pub same-purge : {t u : List ℕ} {n k : ℕ} → Alike t n u k → (d : Date) → purgeAnswer u k d ≡ purgeAnswer t n d

@@ -52,7 +52,7 @@ use Rattle.model.specs.Run.{State, answered, afterOutcome, step, opening
 use Rattle.model.specs.Theorems.{dayAt, pixelAt, linesAt, withdrawals, AllAccepted, DayEarlier, PixelEarlier, dayUnnumbered, pixelUnnumbered, ReasonsUnobservable, countSaid, CountsExplained}
 use Rattle.model.proofs.Held.{Given, held-pixels}
 use Rattle.model.proofs.Agree.{lineStack, length-with, good-pixels, Same, stateAt, withdraw-outcome}
-use Rattle.model.proofs.Compacted.{compacted-equivalent}
+use Rattle.model.proofs.Compacted.{same-found, compacted-equivalent}
 use Rattle.model.proofs.Exactly.{later, by-opening}
 
 -- A withdrawal that is accepted.
@@ -187,12 +187,6 @@ pixel-earlier pixel s d index count named number accept gone =
     (well, rw (pixel-tests (u .ledger) (u .lines) pixel, well, pixel-by (lastStanding (corrects pixel) 0 (linesAt u))) (falls (corrects pixel) w d index k number gone))
 
 -- Compaction.
-
-same-found : {A : Type 0} (by : Found → A) (line : Line → A) → ((i : ℕ) (l : Line) → by (At i l) ≡ line l) → (f g : Found) → foundLines g ≡ foundLines f → by g ≡ by f
-same-found by line k Nothing Nothing e = refl
-same-found by line k (At i l) (At j x) e = let q : x ≡ l = cc in k j x ∙ ap line q ∙ sym (k i l)
-same-found by line k Nothing (At j x) e = let z : _≡_ {A = ℕ} 0 1 = cc in absurd (omega arith)
-same-found by line k (At i l) Nothing e = let z : _≡_ {A = ℕ} 0 1 = cc in absurd (omega arith)
 
 same-day : {t u : List ℕ} {n k : ℕ} → Alike t n u k → (day : Date) → dayUnnumbered (dayReason u k day) ≡ dayUnnumbered (dayReason t n day)
 same-day {t} {u} {n} {k} a day = rw (day-tests t n day, day-tests u k day, a .malformed) (go (ledgerMalformed t n) (not (isDate day)))
