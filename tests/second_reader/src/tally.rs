@@ -29,8 +29,8 @@ fn possible(call: Call) -> Vec<u64> {
         Call::Keep => vec![0, 20, 21, 25],
         Call::Withdraw => vec![0, 17, 18, 19, 20, 21, 22, 23, 24],
         Call::Amend => vec![0, 17, 18, 19, 20, 21, 22, 23, 24, 31],
-        Call::Compact => vec![0, 20],
-        Call::Purge => vec![0, 20, 25, 26, 27],
+        Call::Compact | Call::WhyPixel => vec![0, 20],
+        Call::Purge | Call::WhyDay => vec![0, 20, 25, 26, 27],
         Call::Header => (0..=9).collect(),
         // 0, and 1 where the buffer is too short.
         Call::Listing => vec![0, 1],

@@ -231,7 +231,7 @@ fn the_model_has_room_after_compaction() {
     assert!(model.withdraw().is_ok());
     assert_eq!(model.keep(day(2032, 1, 1)), Err(21));
     model.compact();
-    assert_eq!((model.lines, &model.stack), (1, &vec![keep]));
+    assert_eq!((model.lines, model.entries()), (1, vec![keep]));
     assert!(model.correct(0, 6).is_ok());
     assert_eq!((model.pixels(), model.lines), (vec![6, 7], 2));
 }
