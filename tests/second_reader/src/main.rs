@@ -106,10 +106,7 @@ fn agree(options: &Options, tally: &mut Tally, base: &Case, mutations: Vec<Mutat
     }
     let left = compare::by_library(options.fault, &case);
     let right = compare::by_second_reader(&case);
-    tally.add(case.step.call, &right.met);
-    if matches!(case.step.call, Call::Compact | Call::Further) {
-        tally.add_compacted(&case);
-    }
+    tally.add(&case, &right);
     if left != right {
         println!("difference in case {}", tally.cases());
         report(options, &compare::shrink(options.fault, base, mutations));

@@ -47,10 +47,10 @@ impl Question<'_> {
         (text != "refused 20\n").then(|| standing.collect())
     }
 
-    /// Whether the answer is the last standing line of the listing's that the question is about.
+    /// Whether the answer is the last of the listing's standing lines that the question is about, where there are not too many lines to list.
     fn is_listed(&self, case: &Case, answer: &[u64]) -> bool {
         let Some(standing) = self.standing(case) else {
-            return answer == [20, 0];
+            return is_too_long(case) || answer == [20, 0];
         };
         let sort = match self.step.call {
             Call::WhyDay => "keep ".to_string(),
@@ -75,22 +75,23 @@ impl Question<'_> {
         self.step.call != Call::WhyDay || self.call(Call::Purge, &mut out)[0] == self.answer[0]
     }
 
-    /// Whether withdrawals, as long as each is accepted and the line is still named, leave it named or an earlier one, as listed then.
+    /// Whether withdrawals, as long as each is accepted and the line is still named, leave it or an earlier one named, as each time listed.
     fn goes_back(&self) -> bool {
         let mut case = self.case.clone();
         let used = case.lines as usize * BYTES;
         case.ledger.resize(used + MOST_WITHDRAWALS * BYTES, 0);
         let mut out = Outcome::new(&case);
-        let mut answer = self.answer.clone();
-        let mut withdrawals = 0;
-        while withdrawals < MOST_WITHDRAWALS && answer[1] == self.answer[1] {
+        let line = self.answer[1];
+        for _ in 0..MOST_WITHDRAWALS {
             if self.call(Call::Withdraw, &mut out)[0] != 0 {
                 break;
             }
-            answer = self.ask(&mut out);
-            withdrawals += 1;
+            let answer = self.ask(&mut out);
+            if answer[1] != line || !self.is_listed(&out.after, &answer) {
+                return answer[1] < line && self.is_listed(&out.after, &answer);
+            }
         }
-        answer[1] <= self.answer[1] && self.is_listed(&out.after, &answer)
+        true
     }
 
     /// Whether the same line is named behind a compaction, by its place among those that stood.
@@ -109,32 +110,30 @@ impl Question<'_> {
     }
 }
 
-/// Notes which of the claims do not hold of the question just asked. A ledger with more lines than are listed is left aside.
+/// Whether there are more lines than are listed.
+fn is_too_long(case: &Case) -> bool {
+    case.lines > MOST_LINES as u64
+}
+
+/// Notes which of the claims do not hold of the question just asked.
 pub fn check(step: &Step, out: &mut Outcome, make: Make) {
-    let (case, answer) = (out.after.clone(), out.last_answer().to_vec());
     let question = Question {
         step,
         make,
-        case,
-        answer,
+        case: out.after.clone(),
+        answer: out.last_answer().to_vec(),
     };
-    let refusal = question.answer[0];
-    let listed = question.case.lines <= MOST_LINES as u64;
-    let named = listed && question.answer[1] != 0;
+    let listed = question.is_listed(&question.case, &question.answer);
+    let accepted = question.answer[0] != 20 && !is_too_long(&question.case);
+    let named = accepted && question.answer[1] != 0;
     let claims = [
         ("the purge question's refusal", question.is_purge_answer()),
-        (
-            "the last one listed",
-            !listed && refusal != 20 || question.is_listed(&question.case, &question.answer),
-        ),
+        ("the last one listed", listed),
         (
             "an earlier one after withdrawals",
             !named || question.goes_back(),
         ),
-        (
-            "the same after compaction",
-            !listed || refusal == 20 || question.is_kept(),
-        ),
+        ("the same after compaction", !accepted || question.is_kept()),
     ];
     let broken = claims.into_iter().filter(|(_, holds)| !holds);
     out.broken.extend(broken.map(|(claim, _)| claim));
