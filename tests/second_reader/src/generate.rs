@@ -555,9 +555,25 @@ fn asked_for(random: &mut Random, ledger: &[u8], question: &mut Step) {
     aim(random, &dates, &pixels, question);
 }
 
+/// One question in so many is of a ledger whose last lines have numbers about 65,536.
+const LONG_LEDGER: u64 = 120;
+
+/// Puts corrections of one pixel before the ledger's lines.
+fn lengthen(random: &mut Random, case: &mut Case) {
+    let pixel = random.below(4) as u32;
+    let (old, new) = (1, 1);
+    let line = Entry::Correction { pixel, old, new }.bytes();
+    let lines = 65_500 + random.index(100);
+    case.ledger.splice(0..0, line.repeat(lines));
+    case.lines = case.lines.saturating_add(lines as u64);
+}
+
 /// A question of a held frame's ledger, most often about its lines.
 fn why_case(random: &mut Random, call: Call, size: Size) -> Case {
     let mut case = held_case(random, call, size);
+    if random.once_in(LONG_LEDGER) {
+        lengthen(random, &mut case);
+    }
     if !random.once_in(4) {
         asked_for(random, &case.ledger, &mut case.step);
     }

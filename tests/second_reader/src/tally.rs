@@ -143,7 +143,7 @@ impl Asked<'_> {
 
 /// What a ledger that is asked can be. Each has to be met.
 type IsAsked = fn(&Asked) -> bool;
-const ASKED: [(&str, IsAsked); 11] = [
+const ASKED: [(&str, IsAsked); 12] = [
     ("a later keep line cancelled", |asked| {
         let mut later = asked.later().iter();
         asked.is_of(Call::WhyDay) && later.any(|entry| entry.kept().is_some())
@@ -177,6 +177,7 @@ const ASKED: [(&str, IsAsked); 11] = [
     ("more than 100 lines", |asked| {
         asked.line > 0 && asked.entries.len() > 100
     }),
+    ("a line above 65,535 named", |asked| asked.line > 65_535),
     ("the first of several lines named", |asked| {
         asked.line == 1 && asked.entries.len() > 1
     }),
