@@ -1,5 +1,5 @@
-/* Compaction and the purge question by plain loops. One pass forward checks every line, with no branch but for keep lines, and counts what stands. Compaction then builds the
-   pile of standing lines from the front, in place; the purge question looks back for the last standing keep line. The machine is little-endian.
+/* Compaction and questions by plain loops. One pass forward checks every line, with no branch but for keep lines, and counts what stands. Compaction then builds the
+   pile of standing lines from the front, in place; a question looks back for the last standing line of its sort. The machine is little-endian.
    PREFIX names the compiler that builds this file. */
 #include "plain_compact.h"
 #include <string.h>
@@ -7,7 +7,7 @@
 #define JOIN2(a, b) a##_##b
 #define JOIN(a, b) JOIN2(a, b)
 
-enum { LINE = 16, KEEP = 1, WITHDRAWAL = 2, DATE_AT = 41 };
+enum { LINE = 16, KEEP = 1, WITHDRAWAL = 2, DATE_AT = 41, PIXEL_AT = 17, KIND_BITS = 0xC0 };
 
 #define COUNTS ((1ull << DATE_AT) - 1)
 #define DATE (((1ull << 21) - 1) << DATE_AT)
@@ -67,22 +67,42 @@ int JOIN(PREFIX, compact)(uint8_t *ledger, size_t length, uint64_t *lines) {
     return 0;
 }
 
-/* The number of the last standing keep line, from 1; 0 where none stands. */
-static uint64_t last_keep(const uint8_t *ledger, uint64_t lines) {
+/* The number of the last standing line, from 1, whose first word as it lies in memory has these bits under the mask; 0 where none stands. */
+static inline uint64_t last_line(const uint8_t *ledger, uint64_t lines, uint64_t mask, uint64_t bits) {
     uint64_t waiting = 0;
     for (; lines > 0; lines--) {
-        int kind = ledger[LINE * (lines - 1)] >> 6;
-        if (kind == KEEP && waiting == 0) break;
-        waiting = kind == WITHDRAWAL ? waiting + 1 : waiting - (waiting > 0);
+        uint64_t first = load64(ledger + LINE * (lines - 1));
+        if ((first & mask) == bits && waiting == 0) break;
+        waiting = (first & KIND_BITS) == WITHDRAWAL << 6 ? waiting + 1 : waiting - (waiting > 0);
     }
     return lines;
 }
 
-int JOIN(PREFIX, may_purge)(const uint8_t *ledger, size_t length, uint64_t lines, uint32_t year, uint32_t month, uint32_t day) {
+static inline int judge_day(const uint8_t *ledger, size_t length, uint64_t lines, uint32_t year, uint32_t month, uint32_t day, uint64_t *line) {
+    *line = 0;
     if (standing(ledger, length, lines) < 0) return 20;
     if (!is_date(year, month, day)) return 25;
-    uint64_t keep = last_keep(ledger, lines), asked = year << 9 | month << 5 | day;
+    uint64_t keep = last_line(ledger, lines, KIND_BITS, KEEP << 6), asked = year << 9 | month << 5 | day;
     if (keep == 0) return 26;
     uint64_t kept = (__builtin_bswap64(load64(ledger + LINE * (keep - 1))) & DATE) >> DATE_AT;
+    *line = keep;
     return kept < asked ? 0 : 27;
+}
+
+int JOIN(PREFIX, may_purge)(const uint8_t *ledger, size_t length, uint64_t lines, uint32_t year, uint32_t month, uint32_t day) {
+    uint64_t line;
+    return judge_day(ledger, length, lines, year, month, day, &line);
+}
+
+int JOIN(PREFIX, why_day)(const uint8_t *ledger, size_t length, uint64_t lines, uint32_t year, uint32_t month, uint32_t day, uint64_t *line) {
+    return judge_day(ledger, length, lines, year, month, day, line);
+}
+
+/* A correction's kind and date are 0, so its first word starts with the pixel. */
+int JOIN(PREFIX, why_pixel)(const uint8_t *ledger, size_t length, uint64_t lines, uint64_t pixel, uint64_t *line) {
+    uint64_t mask = __builtin_bswap64(~0ull << PIXEL_AT), bits = __builtin_bswap64(pixel << PIXEL_AT);
+    *line = 0;
+    if (standing(ledger, length, lines) < 0) return 20;
+    if (pixel < 1 << 24) *line = last_line(ledger, lines, mask, bits);
+    return 0;
 }

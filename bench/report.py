@@ -78,9 +78,9 @@ def bench_tables(build):
 
 
 def compact_tables(build):
-    """Two tables without a mark."""
+    """Three tables without a mark."""
     lines = run(build, "compact")
-    return {call: "\n".join([*lines[:2], *rows_of(lines, call)]) for call in ("compact", "purge")}
+    return {call: "\n".join([*lines[:2], *rows_of(lines, call)]) for call in ("compact", "purge", "why")}
 
 
 def fabio_table(build):

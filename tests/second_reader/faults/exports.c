@@ -13,6 +13,8 @@ void rattle_qr_withdraw(qr_ledger_answer *, slice *, slice *, uint64_t);
 void rattle_qr_amend(qr_ledger_answer *, slice *, slice *, uint64_t, uint32_t);
 void rattle_qr_compact(qr_ledger_answer *, slice *, uint64_t);
 uint32_t rattle_qr_may_purge(slice *, uint64_t, uint32_t, uint32_t, uint32_t);
+void rattle_qr_why_day(qr_why_answer *, slice *, uint64_t, uint32_t, uint32_t, uint32_t);
+void rattle_qr_why_pixel(qr_why_answer *, slice *, uint64_t, uint64_t);
 void rattle_qr_header(qr_header_answer *, slice *);
 void rattle_qr_list(qr_list_answer *, slice *, slice *);
 void rattle_qr_mar_read(qr_read_answer *, slice *, slice *);
@@ -83,6 +85,20 @@ qr_ledger_answer qr_compact(uint8_t *ledger, size_t ledger_len, uint64_t lines) 
 uint32_t qr_may_purge(const uint8_t *ledger, size_t ledger_len, uint64_t lines, uint32_t year, uint32_t month, uint32_t day) {
     slice l = { ledger, ledger_len };
     return rattle_qr_may_purge(&l, lines, year, month, day);
+}
+
+qr_why_answer qr_why_day(const uint8_t *ledger, size_t ledger_len, uint64_t lines, uint32_t year, uint32_t month, uint32_t day) {
+    slice l = { ledger, ledger_len };
+    qr_why_answer answer;
+    rattle_qr_why_day(&answer, &l, lines, year, month, day);
+    return answer;
+}
+
+qr_why_answer qr_why_pixel(const uint8_t *ledger, size_t ledger_len, uint64_t lines, uint64_t pixel) {
+    slice l = { ledger, ledger_len };
+    qr_why_answer answer;
+    rattle_qr_why_pixel(&answer, &l, lines, pixel);
+    return answer;
 }
 
 qr_header_answer qr_header(const uint8_t *frame, size_t frame_len) {

@@ -1,4 +1,5 @@
 //! A case: one call, a list of calls from an opening, or further calls with and without compaction, with all that is lent to it.
+use crate::ledger::BYTES;
 use std::fmt::Write;
 use std::rc::Rc;
 
@@ -13,6 +14,8 @@ pub enum Call {
     Amend,
     Compact,
     Purge,
+    WhyDay,
+    WhyPixel,
     Header,
     Listing,
     MarRead,
@@ -26,7 +29,7 @@ pub enum Call {
     List,
 }
 
-pub const CALLS: [(Call, &str); 18] = [
+pub const CALLS: [(Call, &str); 20] = [
     (Call::Read, "read"),
     (Call::Write, "write"),
     (Call::Open, "open"),
@@ -36,6 +39,8 @@ pub const CALLS: [(Call, &str); 18] = [
     (Call::Amend, "amend"),
     (Call::Compact, "compact"),
     (Call::Purge, "purge"),
+    (Call::WhyDay, "why day"),
+    (Call::WhyPixel, "why pixel"),
     (Call::Header, "header"),
     (Call::Listing, "listing"),
     (Call::MarRead, "mar read"),
@@ -50,6 +55,11 @@ pub const CALLS: [(Call, &str); 18] = [
 impl Call {
     pub fn name(self) -> &'static str {
         CALLS[self as usize].1
+    }
+
+    /// Whether it answers with a line that decides.
+    pub fn is_why(self) -> bool {
+        matches!(self, Call::WhyDay | Call::WhyPixel)
     }
 }
 
@@ -114,6 +124,15 @@ impl Case {
             ledger: Vec::new(),
             lines: 0,
             steps: Vec::new(),
+        }
+    }
+
+    /// The listing of these lines, with room for it.
+    pub fn listing(lines: &[u8]) -> Case {
+        Case {
+            buffer: vec![0; 32 + 80 * (lines.len() / BYTES)],
+            ledger: lines.to_vec(),
+            ..Case::of(Call::Listing)
         }
     }
 

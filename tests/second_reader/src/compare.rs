@@ -3,12 +3,12 @@ use crate::case::{Call, Case, Mutation, Step};
 use crate::fault::Fault;
 use crate::frame::{Extent, Refusal};
 use crate::further;
-use crate::ledger::{self, Date, Entry};
+use crate::ledger::{self, Date, Entry, Reason, BYTES};
 use crate::library;
 use crate::listing;
 use crate::mar::Order;
 use crate::model::Model;
-use crate::{dtrek, frame, held, mar};
+use crate::{dtrek, frame, held, mar, why_claims};
 
 /// The calls that answer with a number of lines.
 const CHANGE_LINES: [Call; 5] = [
@@ -26,10 +26,12 @@ pub struct Outcome {
     answers: Vec<Vec<u64>>,
     /// Digests of the held buffer and of the ledger after each call of a list.
     pub digests: Vec<(u64, u64)>,
+    /// For each call the bytes of the line that its answer names, if it names one.
+    pub named: Vec<Option<Vec<u8>>>,
     pub after: Case,
     respected: bool,
-    /// What A8 says of a compaction. The second reader has it true, so that a library of which it is not true differs.
-    claim: bool,
+    /// What A8 and A11 say and was found otherwise. The second reader has nothing there, so that a library that has something differs.
+    pub broken: Vec<&'static str>,
 }
 
 fn digest(bytes: &[u8]) -> u64 {
@@ -43,9 +45,10 @@ impl Outcome {
             met: Vec::new(),
             answers: Vec::new(),
             digests: Vec::new(),
+            named: Vec::new(),
             after: case.clone(),
             respected: true,
-            claim: true,
+            broken: Vec::new(),
         }
     }
 
@@ -62,8 +65,9 @@ impl Outcome {
         self.met.extend(other.met);
         self.answers.extend(other.answers);
         self.digests.extend(other.digests);
+        self.named.extend(other.named);
         self.respected &= other.respected;
-        self.claim &= other.claim;
+        self.broken.extend(other.broken);
     }
 
     /// The first call's answer.
@@ -76,11 +80,23 @@ impl Outcome {
         words.join(" ")
     }
 
-    /// Each call, its refusal, and the number of lines that it gave.
+    /// The last call's answer.
+    pub fn last_answer(&self) -> &[u64] {
+        &self.answers[self.answers.len() - 1]
+    }
+
+    /// The text that a listing left at the end of its buffer.
+    pub fn listing_text(&self) -> String {
+        let buffer = &self.after.buffer;
+        let start = buffer.len() - self.last_answer()[1] as usize;
+        String::from_utf8_lossy(&buffer[start..]).into_owned()
+    }
+
+    /// Each call, its refusal, and the number of lines or the line that it gave.
     pub fn calls(&self) -> Vec<String> {
         let told = |((call, refusal), answer): (&(Call, u64), &Vec<u64>)| {
             let name = call.name();
-            match CHANGE_LINES.contains(call) {
+            match CHANGE_LINES.contains(call) || call.is_why() {
                 true => format!("{name} {refusal}/{}", answer[1]),
                 false => format!("{name} {refusal}"),
             }
@@ -90,6 +106,8 @@ impl Outcome {
 
     fn note(&mut self, call: Call, answer: Vec<u64>) -> u64 {
         self.met.push((call, answer[0]));
+        let number = if call.is_why() { answer[1] } else { 0 };
+        self.named.push(line_bytes(&self.after.ledger, number));
         self.answers.push(answer);
         self.met[self.met.len() - 1].1
     }
@@ -99,6 +117,13 @@ impl Outcome {
         self.digests
             .push((digest(&after.buffer), digest(&after.ledger)));
     }
+}
+
+/// The bytes of the line with this number.
+fn line_bytes(ledger: &[u8], number: u64) -> Option<Vec<u8>> {
+    let place = usize::try_from(number.checked_sub(1)?).ok()?;
+    let line = ledger.chunks_exact(BYTES).nth(place)?;
+    Some(line.to_vec())
 }
 
 /// The call that a step is counted as: a list starts with an opening, and further calls with a compaction.
@@ -129,6 +154,8 @@ fn library_step(fault: Fault, step: &Step, out: &mut Outcome) -> u64 {
         Call::Amend => fault.amend(held, ledger, case.lines, step.count),
         Call::Compact | Call::Further => fault.compact(ledger, case.lines),
         Call::Purge => library::may_purge(ledger, case.lines, step.date),
+        Call::WhyDay => fault.why_day(ledger, case.lines, step.date),
+        Call::WhyPixel => library::why_pixel(ledger, case.lines, step.pixel),
         Call::Header => library::header(&case.frame),
         Call::Listing => library::list(ledger, held),
         Call::MarRead => fault.mar_read(&case.frame, &mut case.pixels),
@@ -142,20 +169,37 @@ fn library_step(fault: Fault, step: &Step, out: &mut Outcome) -> u64 {
         case.lines = answer[1];
     }
     let compacted = call == Call::Compact && answer[0] == 0;
-    out.claim &= !compacted || stays(fault, &case.ledger, case.lines);
+    if compacted && !stays(fault, &case.ledger, case.lines) {
+        out.broken.push("compacting again changes nothing");
+    }
     out.respected &= respected;
     out.note(call, answer)
 }
 
 pub fn by_library(fault: Fault, case: &Case) -> Outcome {
-    let call = |step: &Step, out: &mut Outcome| library_step(fault, step, out);
+    let alone = |step: &Step, out: &mut Outcome| library_step(fault, step, out);
+    let call = |step: &Step, out: &mut Outcome| {
+        let refusal = alone(step, out);
+        if step.call.is_why() {
+            why_claims::check(step, out, &alone);
+        }
+        refusal
+    };
+    let listed = |step: &Step, out: &mut Outcome| {
+        let refusal = call(step, out);
+        if step.call == Call::WhyPixel {
+            why_claims::check_count(step.pixel, out, &alone);
+        }
+        refusal
+    };
     let mut out = Outcome::new(case);
     let refusal = call(&case.step, &mut out);
     match case.step.call {
-        Call::List if refusal == 0 => out.make(&case.steps, call),
+        Call::List if refusal == 0 => out.make(&case.steps, listed),
         Call::Further if refusal == 0 => {
             let without = further::make(case, &mut out, call);
-            out.claim &= further::agree(&without, &out);
+            let agree = further::agree(&without, &out);
+            out.broken.extend((!agree).then_some("further calls agree"));
             out.join(without);
         }
         _ => {}
@@ -264,6 +308,18 @@ fn listing_answer(ledger: &[u8], out: &mut [u8]) -> Vec<u64> {
     vec![0, text.len() as u64]
 }
 
+fn reason_words((refusal, line): Reason) -> Vec<u64> {
+    vec![refusal.into(), line]
+}
+
+/// A question for the line that decides.
+fn reason_answer(step: &Step, ledger: &[u8], lines: u64) -> Vec<u64> {
+    reason_words(match step.call {
+        Call::WhyDay => ledger::why_day(ledger, lines, date(step)),
+        _ => ledger::why_pixel(ledger, lines, step.pixel),
+    })
+}
+
 /// A call that answers with a number of lines.
 fn ledger_answer(step: &Step, case: &mut Case) -> Vec<u64> {
     let (held, ledger, lines) = (&mut case.buffer, &mut case.ledger, case.lines);
@@ -291,6 +347,7 @@ pub fn second_step(step: &Step, out: &mut Outcome) -> u64 {
             let result = ledger::may_purge(&case.ledger, case.lines, date(step));
             vec![result.err().unwrap_or(0).into()]
         }
+        Call::WhyDay | Call::WhyPixel => reason_answer(step, &case.ledger, case.lines),
         Call::Header => header_answer(&case.frame),
         Call::Listing => listing_answer(&case.ledger, &mut case.buffer),
         Call::MarRead => read_answer(mar::read(&case.frame, &mut case.pixels)),
@@ -304,8 +361,10 @@ pub fn second_step(step: &Step, out: &mut Outcome) -> u64 {
 
 /// Enters one call into the reference model and brings the held buffer and the ledger to what it says.
 fn model_step(step: &Step, model: &mut Model, out: &mut Outcome) {
-    if step.call == Call::Compact {
-        return model_compacts(model, out);
+    match step.call {
+        Call::Compact => return model_compacts(model, out),
+        Call::WhyDay | Call::WhyPixel => return model_reasons(step, model, out),
+        _ => {}
     }
     let one = |entry: Entry| vec![entry];
     let result = match step.call {
@@ -331,9 +390,21 @@ fn model_step(step: &Step, model: &mut Model, out: &mut Outcome) {
 fn model_compacts(model: &mut Model, out: &mut Outcome) {
     model.compact();
     let case = &mut out.after;
-    ledger::replace(&mut case.ledger, case.lines, &model.stack);
+    ledger::replace(&mut case.ledger, case.lines, &model.entries());
     case.lines = model.lines;
     out.note(Call::Compact, vec![0, model.lines]);
+    out.digest();
+}
+
+/// What the model says of a question, which has to be what the ledger's lines say.
+fn model_reasons(step: &Step, model: &Model, out: &mut Outcome) {
+    let answer = reason_words(match step.call {
+        Call::WhyDay => model.why_day(date(step)),
+        _ => model.why_pixel(step.pixel),
+    });
+    let by_lines = reason_answer(step, &out.after.ledger, out.after.lines);
+    assert_eq!(by_lines, answer, "the line that decides");
+    out.note(step.call, answer);
     out.digest();
 }
 
@@ -385,7 +456,7 @@ fn by_model(case: &Case, out: &mut Outcome) {
     let standing = ledger::standing(&lines);
     assert_eq!(
         without_old(&standing),
-        without_old(&model.stack),
+        without_old(&model.entries()),
         "the stack"
     );
 }
@@ -431,12 +502,12 @@ pub fn describe(fault: Fault, case: &Case) -> String {
     let pixel = |a: &[u32], b: &[u32]| a.iter().zip(b).position(|(a, b)| a != b);
     format!(
         "library {:?}\nsecond  {:?}\nguards and read-only bytes respected: {}\n\
-         A8's claim holds: {}\n\
+         claims broken: {:?}\n\
          first different byte of buffer {:?}, of ledger {:?}, first different pixel {:?}\n",
         left.answers,
         right.answers,
         left.respected,
-        left.claim,
+        left.broken,
         first(&left.after.buffer, &right.after.buffer),
         first(&left.after.ledger, &right.after.ledger),
         pixel(&left.after.pixels, &right.after.pixels),

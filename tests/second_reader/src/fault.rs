@@ -1,7 +1,7 @@
 //! Deliberate faults laid over the library, to see that the comparison finds them.
 use crate::dtrek;
 use crate::frame::read_header;
-use crate::ledger::BYTES;
+use crate::ledger::{self, BYTES};
 use crate::library::{self, Answer};
 use crate::mar::Order;
 
@@ -22,6 +22,8 @@ pub enum Fault {
     Between,
     /// A compaction leaves the freed bytes as they were.
     Freed,
+    /// Of the standing keep lines the one with the latest date is named, and not the last.
+    Latest,
 }
 
 impl Fault {
@@ -35,6 +37,7 @@ impl Fault {
             Fault::Swapped,
             Fault::Between,
             Fault::Freed,
+            Fault::Latest,
         ];
         faults.get(number as usize).copied()
     }
@@ -93,6 +96,17 @@ impl Fault {
         if self == Fault::Freed && numbers[0] == 0 {
             let left = numbers[1] as usize * BYTES;
             ledger[left..].copy_from_slice(&before[left..]);
+        }
+        (numbers, respected)
+    }
+
+    pub fn why_day(self, ledger: &[u8], lines: u64, day: (u32, u32, u32)) -> Answer {
+        let (mut numbers, respected) = library::why_day(ledger, lines, day);
+        if self == Fault::Latest && numbers[1] != 0 {
+            let entries = ledger::entries(ledger, lines).unwrap_or_default();
+            let standing = (0..entries.len()).filter(|place| ledger::stands(&entries, *place));
+            let latest = standing.max_by_key(|place| entries[*place].kept());
+            numbers[1] = latest.map_or(0, |place| place as u64 + 1);
         }
         (numbers, respected)
     }

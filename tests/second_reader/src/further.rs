@@ -1,4 +1,4 @@
-//! A8's claim by running it: further calls on a ledger as it was and on a compacted one have the same answers and frames.
+//! A8's claim by running it: further calls on a ledger as it was and on a compacted one have the same answers and frames, and name the same lines.
 use crate::case::{Case, Step};
 use crate::compare::Outcome;
 
@@ -18,5 +18,7 @@ pub fn agree(without: &Outcome, with: &Outcome) -> bool {
         let digests = out.digests.iter().take(until);
         digests.map(|(frame, _)| *frame).collect()
     };
-    without.met[..until] == with.met[1..=until] && frames(without) == frames(with)
+    let same = without.met[..until] == with.met[1..=until];
+    let same_lines = without.named[..until] == with.named[1..=until];
+    same && same_lines && frames(without) == frames(with)
 }

@@ -434,6 +434,40 @@ fn frame_case(random: &mut Random, call: Call, size: Size) -> Case {
     }
 }
 
+/// A pixel that is corrected, another beside it, or one with the same lower bits.
+fn pixel_near(random: &mut Random, corrected: u64) -> u64 {
+    match random.below(10) {
+        0 => corrected.saturating_add(1),
+        1 => corrected.saturating_sub(1),
+        2 | 3 => corrected | 1 << random.pick(&[8, 16, 24, 24, 32, 32, 63]),
+        4 => random.pick(&[0, (1 << 24) - 1, u64::MAX]),
+        _ => corrected,
+    }
+}
+
+/// Asks for one of these dates or for the day after it, and for one of these pixels or for one near it.
+fn aim(random: &mut Random, dates: &[(u32, u32, u32)], pixels: &[u64], question: &mut Step) {
+    if !dates.is_empty() {
+        let (year, month, day) = random.pick(dates);
+        question.date = (year, month, day + random.below(2) as u32);
+    }
+    if !pixels.is_empty() {
+        let pixel = random.pick(pixels);
+        question.pixel = pixel_near(random, pixel);
+    }
+}
+
+/// Most questions are about what the calls before them put into the ledger.
+fn aim_at_calls(random: &mut Random, before: &[Step], next: &mut Step) {
+    if !next.call.is_why() || random.once_in(6) {
+        return;
+    }
+    let made = |call: Call| before.iter().filter(move |step| step.call == call);
+    let dates: Vec<_> = made(Call::Keep).map(|step| step.date).collect();
+    let pixels: Vec<_> = made(Call::Correct).map(|step| step.pixel).collect();
+    aim(random, &dates, &pixels, next);
+}
+
 /// Calls in any order. A compaction has often the call before it made again behind it: there may be room for it then.
 fn steps(random: &mut Random, most: usize, pixels: usize, baseline: u32) -> Vec<Step> {
     let calls = [
@@ -443,12 +477,15 @@ fn steps(random: &mut Random, most: usize, pixels: usize, baseline: u32) -> Vec<
         Call::Withdraw,
         Call::Amend,
         Call::Purge,
+        Call::WhyDay,
+        Call::WhyPixel,
     ];
     let seldom = random.pick(&[4, 12, 40]);
     let mut steps = Vec::new();
     for _ in 0..random.index(most + 1) {
         let call = random.pick(&calls);
-        let next = step(random, call, pixels, baseline);
+        let mut next = step(random, call, pixels, baseline);
+        aim_at_calls(random, &steps, &mut next);
         steps.push(next);
         if random.once_in(seldom) {
             steps.push(step(random, Call::Compact, pixels, baseline));
@@ -505,18 +542,42 @@ fn held_case(random: &mut Random, call: Call, size: Size) -> Case {
     }
 }
 
-/// A purge question for the date of a keep line, or for the day after it.
+/// A question about what stands in the ledger's lines, cancelled ones included.
 fn asked_for(random: &mut Random, ledger: &[u8], question: &mut Step) {
-    let lines = ledger.chunks_exact(BYTES).filter_map(Entry::parse);
-    let dates = lines.filter_map(|entry| match entry {
-        Entry::Keep(date) => Some((date.year, date.month, date.day)),
-        _ => None,
-    });
-    let dates: Vec<_> = dates.collect();
-    if !dates.is_empty() {
-        let (year, month, day) = random.pick(&dates);
-        question.date = (year, month, day + random.below(2) as u32);
+    let (mut dates, mut pixels) = (Vec::new(), Vec::new());
+    for entry in ledger.chunks_exact(BYTES).filter_map(Entry::parse) {
+        match entry {
+            Entry::Keep(date) => dates.push((date.year, date.month, date.day)),
+            Entry::Correction { pixel, .. } => pixels.push(pixel.into()),
+            Entry::Withdrawal => {}
+        }
     }
+    aim(random, &dates, &pixels, question);
+}
+
+/// One question in so many is of a ledger whose last lines have numbers about 65,536.
+const LONG_LEDGER: u64 = 120;
+
+/// Puts corrections of one pixel before the ledger's lines.
+fn lengthen(random: &mut Random, case: &mut Case) {
+    let pixel = random.below(4) as u32;
+    let (old, new) = (1, 1);
+    let line = Entry::Correction { pixel, old, new }.bytes();
+    let lines = 65_500 + random.index(100);
+    case.ledger.splice(0..0, line.repeat(lines));
+    case.lines = case.lines.saturating_add(lines as u64);
+}
+
+/// A question of a held frame's ledger, most often about its lines.
+fn why_case(random: &mut Random, call: Call, size: Size) -> Case {
+    let mut case = held_case(random, call, size);
+    if random.once_in(LONG_LEDGER) {
+        lengthen(random, &mut case);
+    }
+    if !random.once_in(4) {
+        asked_for(random, &case.ledger, &mut case.step);
+    }
+    case
 }
 
 /// Further calls on a held frame and a ledger, which in half of the cases came about by calls.
@@ -536,7 +597,7 @@ fn further_case(random: &mut Random, size: Size) -> Case {
         case = compare::after(&case, &calls);
     }
     case.steps = steps(random, most, pixels, baseline);
-    let is_question = |step: &&mut Step| step.call == Call::Purge;
+    let is_question = |step: &&mut Step| step.call == Call::Purge || step.call.is_why();
     for question in case.steps.iter_mut().filter(is_question) {
         asked_for(random, &case.ledger, question);
     }
@@ -585,9 +646,9 @@ fn size(random: &mut Random, number: u64) -> Size {
     }
 }
 
-/// The last eleven look at no frame.
+/// From Keep on they look at no frame.
 fn call(random: &mut Random, size: Size) -> Call {
-    let calls = if size.is_large() { 18 } else { 29 };
+    let calls = if size.is_large() { 18 } else { 33 };
     match random.below(calls) {
         0..=3 => Call::Read,
         4 | 5 => Call::Write,
@@ -600,12 +661,14 @@ fn call(random: &mut Random, size: Size) -> Call {
         17 => Call::Further,
         18 => Call::Keep,
         19 => Call::Purge,
-        20 => Call::Listing,
-        21 | 22 => Call::Compact,
-        23 => Call::MarEntry,
-        24 => Call::MarRead,
-        25 | 26 => Call::DtrekRead,
-        27 => Call::DtrekHeader,
+        20 | 21 => Call::WhyDay,
+        22 | 23 => Call::WhyPixel,
+        24 => Call::Listing,
+        25 | 26 => Call::Compact,
+        27 => Call::MarEntry,
+        28 => Call::MarRead,
+        29 | 30 => Call::DtrekRead,
+        31 => Call::DtrekHeader,
         _ => Call::DtrekItem,
     }
 }
@@ -622,12 +685,14 @@ pub fn case(random: &mut Random, number: u64) -> Made {
         Call::Listing => listing_case(random, size),
         Call::List => list_case(random, size),
         Call::Further => further_case(random, size),
+        Call::WhyDay | Call::WhyPixel => why_case(random, call, size),
         _ => held_case(random, call, size),
     };
     let damage = damage(random, &base);
     let unframed = [Call::Keep, Call::Purge, Call::Listing, Call::Compact];
+    let framed = !unframed.contains(&call) && !call.is_why();
     Made {
-        size: (!unframed.contains(&call)).then_some(size),
+        size: framed.then_some(size),
         rare: None,
         base,
         damage,

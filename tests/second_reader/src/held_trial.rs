@@ -1,4 +1,4 @@
-//! One row of four pixels, held with its ledger: what the trials of amends and of compactions are made of.
+//! One row of four pixels, held with its ledger: what the trials of amends, of compactions and of questions are made of.
 use crate::case::{Call, Case, Step};
 use crate::frame::{self, LINE, NAME};
 use crate::ledger::{Date, Entry, BYTES};
@@ -135,14 +135,8 @@ pub fn joined(numbers: impl Iterator<Item = u64>) -> String {
 
 /// The listing of these lines as the library gives it, in one line.
 pub fn listed(lines: &[u8]) -> String {
-    let case = Case {
-        buffer: vec![0; 32 + 80 * (lines.len() / BYTES)],
-        ledger: lines.to_vec(),
-        ..Case::of(Call::Listing)
-    };
-    let (outcome, note) = both(&case);
-    let text = &outcome.after.buffer[case.buffer.len() - outcome.answer()[1] as usize..];
-    let text = String::from_utf8_lossy(text);
+    let (outcome, note) = both(&Case::listing(lines));
+    let text = outcome.listing_text();
     format!("{}{note}", text.trim_end().replace('\n', "; "))
 }
 
@@ -187,6 +181,8 @@ pub enum Deed {
     Amend(u64, u32),
     Compact,
     Purge((u32, u32, u32)),
+    WhyDay((u32, u32, u32)),
+    WhyPixel(u64),
 }
 
 impl Deed {
@@ -198,6 +194,8 @@ impl Deed {
             Deed::Amend(_, count) => (Call::Amend, 0, count, DATE),
             Deed::Compact => (Call::Compact, 0, 0, DATE),
             Deed::Purge(date) => (Call::Purge, 0, 0, date),
+            Deed::WhyDay(date) => (Call::WhyDay, 0, 0, date),
+            Deed::WhyPixel(pixel) => (Call::WhyPixel, pixel, 0, DATE),
         };
         Step {
             call,

@@ -148,16 +148,26 @@ pub fn keep(ledger: &mut [u8], lines: u64, date: Date) -> Result<(), u32> {
     Ok(())
 }
 
-/// What a purge question is told, given the standing entries.
-pub fn purge_answer(standing: &[Entry], asked: Date) -> Result<(), u32> {
+impl Entry {
+    pub fn kept(self) -> Option<Date> {
+        match self {
+            Entry::Keep(date) => Some(date),
+            _ => None,
+        }
+    }
+
+    /// Whether this is a correction of the pixel with this number.
+    pub fn corrects(self, number: u64) -> bool {
+        matches!(self, Entry::Correction { pixel, .. } if u64::from(pixel) == number)
+    }
+}
+
+/// What a purge question is told, given the last standing keep date.
+pub fn purge_answer(kept: Option<Date>, asked: Date) -> Result<(), u32> {
     if !asked.is_calendar() {
         return Err(25);
     }
-    let dates = standing.iter().rev().filter_map(|entry| match entry {
-        Entry::Keep(date) => Some(*date),
-        _ => None,
-    });
-    match dates.take(1).next() {
+    match kept {
         None => Err(26),
         Some(date) if date < asked => Ok(()),
         Some(_) => Err(27),
@@ -165,6 +175,48 @@ pub fn purge_answer(standing: &[Entry], asked: Date) -> Result<(), u32> {
 }
 
 pub fn may_purge(ledger: &[u8], lines: u64, asked: Date) -> Result<(), u32> {
-    let entries = entries(ledger, lines)?;
-    purge_answer(&standing(&entries), asked)
+    let standing = standing(&entries(ledger, lines)?);
+    let kept = standing.iter().rev().find_map(|entry| entry.kept());
+    purge_answer(kept, asked)
+}
+
+/// A refusal, or 0, and the line that decides, from 1, or 0.
+pub type Reason = (u32, u64);
+
+/// What a question for a day is told, given the last standing keep line and its date.
+pub fn day_reason(kept: Option<(u64, Date)>, asked: Date) -> Reason {
+    let answer = purge_answer(kept.map(|(_, date)| date), asked);
+    let line = kept.map_or(0, |(line, _)| line);
+    match answer {
+        Ok(()) => (0, line),
+        Err(27) => (27, line),
+        Err(refusal) => (refusal, 0),
+    }
+}
+
+/// The number and the entry of the last standing line of a sort.
+fn last_line(entries: &[Entry], sort: impl Fn(Entry) -> bool) -> Option<(u64, Entry)> {
+    let wanted = |place: &usize| sort(entries[*place]) && stands(entries, *place);
+    let place = (0..entries.len()).rev().find(wanted)?;
+    Some((place as u64 + 1, entries[place]))
+}
+
+pub fn why_day(ledger: &[u8], lines: u64, asked: Date) -> Reason {
+    let entries = match entries(ledger, lines) {
+        Ok(entries) => entries,
+        Err(refusal) => return (refusal, 0),
+    };
+    let last = last_line(&entries, |entry| entry.kept().is_some());
+    let kept = last.and_then(|(line, entry)| Some((line, entry.kept()?)));
+    day_reason(kept, asked)
+}
+
+pub fn why_pixel(ledger: &[u8], lines: u64, number: u64) -> Reason {
+    match entries(ledger, lines) {
+        Ok(entries) => {
+            let last = last_line(&entries, |entry| entry.corrects(number));
+            (0, last.map_or(0, |(line, _)| line))
+        }
+        Err(refusal) => (refusal, 0),
+    }
 }

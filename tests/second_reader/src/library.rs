@@ -1,5 +1,5 @@
 //! The static library, with guards: every slice is lent from the middle of a longer buffer whose other places are guards.
-use quayrudder::{Date, Form, LedgerAnswer, ReadAnswer};
+use quayrudder::{Date, Form, LedgerAnswer, ReadAnswer, WhyAnswer};
 
 /// Places before and after a lent slice. Odd, so that bytes are lent unaligned.
 const GUARD: usize = 67;
@@ -181,6 +181,20 @@ pub fn may_purge(ledger: &[u8], lines: u64, day: (u32, u32, u32)) -> Answer {
     let mut a = Lent::new(ledger, BYTE);
     let refusal = quayrudder::may_purge(a.middle(), lines, date(day));
     (vec![u64::from(refusal)], a.is_untouched(ledger))
+}
+
+fn why_by(ask: impl Fn(&[u8]) -> WhyAnswer, ledger: &[u8]) -> Answer {
+    let mut a = Lent::new(ledger, BYTE);
+    let r = ask(a.middle());
+    (vec![r.refusal.into(), r.line], a.is_untouched(ledger))
+}
+
+pub fn why_day(ledger: &[u8], lines: u64, day: (u32, u32, u32)) -> Answer {
+    why_by(|l| quayrudder::why_day(l, lines, date(day)), ledger)
+}
+
+pub fn why_pixel(ledger: &[u8], lines: u64, pixel: u64) -> Answer {
+    why_by(|l| quayrudder::why_pixel(l, lines, pixel), ledger)
 }
 
 pub fn header(frame: &[u8]) -> Answer {

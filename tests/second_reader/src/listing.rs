@@ -1,7 +1,7 @@
 //! The listing of a ledger.
 use crate::ledger::{self, Entry, BYTES};
 
-const MOST_LINES: usize = 4096;
+pub const MOST_LINES: usize = 4096;
 
 fn words(entry: Entry) -> String {
     match entry {

@@ -17,6 +17,7 @@ mod generate;
 mod held;
 mod held_trial;
 mod ledger;
+mod lettered;
 mod library;
 mod listing;
 mod mar;
@@ -29,6 +30,8 @@ mod sample;
 mod tally;
 #[cfg(test)]
 mod trials;
+mod why_claims;
+mod why_trials;
 mod written_down;
 
 use case::{Call, Case, Mutation};
@@ -40,12 +43,13 @@ use std::time::{Duration, Instant, SystemTime, UNIX_EPOCH};
 use tally::Tally;
 
 const USAGE: &str =
-    "second_reader compare [--seed N] [--seconds S] [--fault 1..7] [--case FILE] [--trace 1]\n\
-                     second_reader replay FILE [--fault 1..7]\n\
+    "second_reader compare [--seed N] [--seconds S] [--fault 1..8] [--case FILE] [--trace 1]\n\
+                     second_reader replay FILE [--fault 1..8]\n\
                      second_reader mar-trials\n\
                      second_reader dtrek-trials\n\
                      second_reader amend-trials\n\
                      second_reader compact-trials\n\
+                     second_reader why-trials\n\
                      second_reader expand FRAME PIXELS\n\
                      second_reader expand-dtrek FILE PIXELS\n\
                      second_reader store HEADER PIXELS WIDTH UNDERFLOW FRAME";
@@ -102,10 +106,7 @@ fn agree(options: &Options, tally: &mut Tally, base: &Case, mutations: Vec<Mutat
     }
     let left = compare::by_library(options.fault, &case);
     let right = compare::by_second_reader(&case);
-    tally.add(case.step.call, &right.met);
-    if matches!(case.step.call, Call::Compact | Call::Further) {
-        tally.add_compacted(&case);
-    }
+    tally.add(&case, &right);
     if left != right {
         println!("difference in case {}", tally.cases());
         report(options, &compare::shrink(options.fault, base, mutations));
@@ -206,6 +207,7 @@ fn run(words: &[&str]) -> Option<ExitCode> {
         ["dtrek-trials"] => Some(verdict(Ok(dtrek_trials::run()))),
         ["amend-trials"] => Some(verdict(Ok(amend_trials::run()))),
         ["compact-trials"] => Some(verdict(Ok(compact_trials::run()))),
+        ["why-trials"] => Some(verdict(Ok(why_trials::run()))),
         ["expand", frame, pixels] => Some(verdict(files::expand(Call::Read, frame, pixels))),
         ["expand-dtrek", file, pixels] => {
             Some(verdict(files::expand(Call::DtrekRead, file, pixels)))

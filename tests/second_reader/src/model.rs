@@ -1,6 +1,6 @@
 //! The reference model: a stack of entries over the pixels opened.
 use crate::frame;
-use crate::ledger::{self, Date, Entry};
+use crate::ledger::{self, Date, Entry, Reason};
 
 pub struct Model {
     pub header: Vec<u8>,
@@ -8,7 +8,8 @@ pub struct Model {
     pub form: (u32, u32),
     pub held_length: usize,
     pub ledger_length: usize,
-    pub stack: Vec<Entry>,
+    /// Entries, each with the number of its line in the ledger.
+    pub stack: Vec<(u64, Entry)>,
     pub lines: u64,
 }
 
@@ -22,9 +23,20 @@ impl Model {
         Ok(())
     }
 
+    /// The stack's entries, oldest first.
+    pub fn entries(&self) -> Vec<Entry> {
+        self.stack.iter().map(|(_, entry)| *entry).collect()
+    }
+
+    /// Puts the entry of the next line on top.
+    fn push(&mut self, entry: Entry) {
+        self.lines += 1;
+        self.stack.push((self.lines, entry));
+    }
+
     pub fn pixels(&self) -> Vec<u32> {
         let mut pixels = self.opened.clone();
-        for entry in &self.stack {
+        for (_, entry) in &self.stack {
             if let Entry::Correction { pixel, new, .. } = entry {
                 pixels[*pixel as usize] = *new;
             }
@@ -57,8 +69,7 @@ impl Model {
         let old = std::mem::replace(&mut pixels[pixel as usize], new);
         self.held(&pixels)?;
         let entry = Entry::Correction { pixel, old, new };
-        self.stack.push(entry);
-        self.lines += 1;
+        self.push(entry);
         Ok(entry)
     }
 
@@ -67,8 +78,7 @@ impl Model {
             return Err(25);
         }
         self.must_have_room(1)?;
-        self.stack.push(Entry::Keep(date));
-        self.lines += 1;
+        self.push(Entry::Keep(date));
         Ok(Entry::Keep(date))
     }
 
@@ -85,29 +95,46 @@ impl Model {
     /// A withdrawal and a correction, of which only the frame after both is judged.
     pub fn amend(&mut self, new: u32) -> Result<[Entry; 2], u32> {
         let last = *self.stack.last().ok_or(22u32)?;
-        let Entry::Correction { pixel, .. } = last else {
+        let (_, Entry::Correction { pixel, .. }) = last else {
             return Err(31);
         };
         self.must_have_room(2)?;
-        self.stack.pop();
+        self.withdraw()?;
         match self.push_correction(pixel, new) {
-            Ok(entry) => {
-                self.lines += 1;
-                Ok([Entry::Withdrawal, entry])
-            }
+            Ok(entry) => Ok([Entry::Withdrawal, entry]),
             Err(refusal) => {
+                self.lines -= 1;
                 self.stack.push(last);
                 Err(refusal)
             }
         }
     }
 
-    /// The ledger's lines are then the stack's entries.
+    /// The ledger's lines are then the stack's entries, numbered anew.
     pub fn compact(&mut self) {
-        self.lines = self.stack.len() as u64;
+        let entries = self.entries();
+        self.stack.clear();
+        self.lines = 0;
+        entries.into_iter().for_each(|entry| self.push(entry));
+    }
+
+    /// The uppermost keep date, with its line's number.
+    fn kept(&self) -> Option<(u64, Date)> {
+        let dated = |(line, entry): &(u64, Entry)| Some((*line, entry.kept()?));
+        self.stack.iter().rev().find_map(dated)
     }
 
     pub fn may_purge(&self, asked: Date) -> Result<(), u32> {
-        ledger::purge_answer(&self.stack, asked)
+        ledger::purge_answer(self.kept().map(|(_, date)| date), asked)
+    }
+
+    pub fn why_day(&self, asked: Date) -> Reason {
+        ledger::day_reason(self.kept(), asked)
+    }
+
+    pub fn why_pixel(&self, number: u64) -> Reason {
+        let entries = self.stack.iter().rev();
+        let mut corrections = entries.filter(|(_, entry)| entry.corrects(number));
+        (0, corrections.next().map_or(0, |(line, _)| *line))
     }
 }

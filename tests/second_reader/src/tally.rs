@@ -1,6 +1,7 @@
-//! Counts per call and refusal, and of the ledgers compacted.
-use crate::case::{Call, Case, CALLS};
-use crate::ledger::{self, Entry, BYTES};
+//! Counts per call and refusal, and of the ledgers compacted and asked.
+use crate::case::{Call, Case, Step, CALLS};
+use crate::compare::Outcome;
+use crate::ledger::{self, Date, Entry, BYTES};
 use crate::sample::{Size, SIZES};
 use std::collections::BTreeMap;
 
@@ -12,8 +13,8 @@ pub struct Tally {
     /// Whole mar images by their side.
     plates: BTreeMap<usize, u64>,
     rare: BTreeMap<&'static str, u64>,
-    /// Accepted compactions by what their ledgers were.
-    compacted: BTreeMap<&'static str, u64>,
+    /// Accepted compactions and questions by what their ledgers were.
+    ledgers: BTreeMap<(&'static str, &'static str), u64>,
     further: u64,
     met: BTreeMap<(Call, u64), u64>,
 }
@@ -29,8 +30,8 @@ fn possible(call: Call) -> Vec<u64> {
         Call::Keep => vec![0, 20, 21, 25],
         Call::Withdraw => vec![0, 17, 18, 19, 20, 21, 22, 23, 24],
         Call::Amend => vec![0, 17, 18, 19, 20, 21, 22, 23, 24, 31],
-        Call::Compact => vec![0, 20],
-        Call::Purge => vec![0, 20, 25, 26, 27],
+        Call::Compact | Call::WhyPixel => vec![0, 20],
+        Call::Purge | Call::WhyDay => vec![0, 20, 25, 26, 27],
         Call::Header => (0..=9).collect(),
         // 0, and 1 where the buffer is too short.
         Call::Listing => vec![0, 1],
@@ -98,28 +99,160 @@ fn is_room_used(three: &[(Call, u64)]) -> bool {
     *call != Call::Purge && *call != Call::Compact
 }
 
-const ROOM_USED: &str = "full, and the freed room used at once";
+/// A question for the line that decides, the ledger's entries, and the line named.
+struct Asked<'a> {
+    step: &'a Step,
+    entries: &'a [Entry],
+    line: usize,
+}
+
+impl Asked<'_> {
+    fn is_of(&self, call: Call) -> bool {
+        self.step.call == call && self.line > 0
+    }
+
+    /// The entries behind the line named.
+    fn later(&self) -> &[Entry] {
+        &self.entries[self.line..]
+    }
+
+    fn stands(&self, place: usize) -> bool {
+        ledger::stands(self.entries, place)
+    }
+
+    fn kept(&self, place: usize) -> Option<Date> {
+        self.entries[place].kept().filter(|_| self.stands(place))
+    }
+
+    fn is_other_correction(&self, place: usize) -> bool {
+        let entry = self.entries[place];
+        let is_other =
+            matches!(entry, Entry::Correction { .. }) && !entry.corrects(self.step.pixel);
+        is_other && self.stands(place)
+    }
+
+    /// Whether it is a pixel's question that names no line.
+    fn is_as_opened(&self) -> bool {
+        self.step.call == Call::WhyPixel && self.line == 0
+    }
+
+    fn is_corrected(&self, pixel: u64) -> bool {
+        self.entries.iter().any(|entry| entry.corrects(pixel))
+    }
+}
+
+/// What a ledger that is asked can be. Each has to be met.
+type IsAsked = fn(&Asked) -> bool;
+const ASKED: [(&str, IsAsked); 12] = [
+    ("a later keep line cancelled", |asked| {
+        let mut later = asked.later().iter();
+        asked.is_of(Call::WhyDay) && later.any(|entry| entry.kept().is_some())
+    }),
+    ("an earlier keep line standing with a later date", |asked| {
+        let mut earlier = 0..asked.line.saturating_sub(1);
+        let named = |place: usize| asked.kept(place) > asked.kept(asked.line - 1);
+        asked.is_of(Call::WhyDay) && earlier.any(named)
+    }),
+    ("a later correction of the pixel cancelled", |asked| {
+        let mut later = asked.later().iter();
+        asked.is_of(Call::WhyPixel) && later.any(|entry| entry.corrects(asked.step.pixel))
+    }),
+    ("a later correction of another pixel standing", |asked| {
+        let mut later = asked.line..asked.entries.len();
+        asked.is_of(Call::WhyPixel) && later.any(|place| asked.is_other_correction(place))
+    }),
+    ("amended", |asked| {
+        asked.line > 2 && is_amend(&asked.entries[asked.line - 3..asked.line])
+    }),
+    ("as opened", |asked| {
+        asked.is_as_opened() && !asked.entries.is_empty()
+    }),
+    ("as opened, its correction cancelled", |asked| {
+        asked.is_as_opened() && asked.is_corrected(asked.step.pixel)
+    }),
+    ("a corrected pixel with higher bits", |asked| {
+        let (higher, lower) = (asked.step.pixel >> 24, asked.step.pixel & 0xFF_FFFF);
+        asked.is_as_opened() && higher > 0 && asked.is_corrected(lower)
+    }),
+    ("more than 100 lines", |asked| {
+        asked.line > 0 && asked.entries.len() > 100
+    }),
+    ("a line above 65,535 named", |asked| asked.line > 65_535),
+    ("the first of several lines named", |asked| {
+        asked.line == 1 && asked.entries.len() > 1
+    }),
+    ("the last of several lines named", |asked| {
+        asked.line == asked.entries.len() && asked.line > 1
+    }),
+];
+
+/// Whether a question names a line behind a compaction.
+fn is_asked_compacted(case: &Case, outcome: &Outcome) -> bool {
+    let calls = outcome.met.iter().zip(&outcome.named);
+    let list = calls.take(1 + case.steps.len());
+    let mut behind = list.skip_while(|(met, _)| **met != (Call::Compact, 0));
+    behind.any(|(_, named)| named.is_some())
+}
+
+const COMPACTING: &str = "ledgers compacted";
+const ASKING: &str = "ledgers asked";
+/// What lists of calls are counted by.
+const ROOM_USED: (&str, &str) = (COMPACTING, "full, and the freed room used at once");
+const ASKED_COMPACTED: (&str, &str) = (ASKING, "compacted");
+
+/// Every kind of ledger that has to be met.
+fn ledgers() -> impl Iterator<Item = (&'static str, &'static str)> {
+    let compacted = COMPACTED.iter().map(|(name, _)| (COMPACTING, *name));
+    let asked = ASKED.iter().map(|(name, _)| (ASKING, *name));
+    let lists = [ROOM_USED, ASKED_COMPACTED];
+    compacted.chain(asked).chain(lists)
+}
 
 impl Tally {
-    pub fn add(&mut self, call: Call, met: &[(Call, u64)]) {
+    pub fn add(&mut self, case: &Case, outcome: &Outcome) {
+        let call = case.step.call;
         self.cases += 1;
         self.lists += u64::from(call == Call::List);
         self.further += u64::from(call == Call::Further);
-        let used = call == Call::List && met.windows(3).any(is_room_used);
-        *self.compacted.entry(ROOM_USED).or_default() += u64::from(used);
-        for key in met {
+        let used = call == Call::List && outcome.met.windows(3).any(is_room_used);
+        self.add_ledger(ROOM_USED, used);
+        self.add_ledger(ASKED_COMPACTED, is_asked_compacted(case, outcome));
+        for key in &outcome.met {
             *self.met.entry(*key).or_default() += 1;
+        }
+        match call {
+            Call::Compact | Call::Further => self.add_compacted(case),
+            Call::WhyDay | Call::WhyPixel => self.add_asked(case, outcome.answer()[1]),
+            _ => {}
         }
     }
 
+    fn add_ledger(&mut self, kind: (&'static str, &'static str), holds: bool) {
+        *self.ledgers.entry(kind).or_default() += u64::from(holds);
+    }
+
     /// Counts a case that starts with a compaction by its ledger.
-    pub fn add_compacted(&mut self, case: &Case) {
+    fn add_compacted(&mut self, case: &Case) {
         let Ok(entries) = ledger::entries(&case.ledger, case.lines) else {
             return;
         };
         for (name, holds) in COMPACTED {
-            let count = u64::from(holds(case, &entries));
-            *self.compacted.entry(name).or_default() += count;
+            self.add_ledger((COMPACTING, name), holds(case, &entries));
+        }
+    }
+
+    /// Counts a question by its ledger and the line named.
+    fn add_asked(&mut self, case: &Case, line: u64) {
+        let Ok(entries) = ledger::entries(&case.ledger, case.lines) else {
+            return;
+        };
+        let asked = Asked {
+            step: &case.step,
+            entries: &entries,
+            line: line as usize,
+        };
+        for (name, holds) in ASKED {
+            self.add_ledger((ASKING, name), holds(&asked));
         }
     }
 
@@ -152,9 +285,8 @@ impl Tally {
 
     pub fn all_reached(&self) -> bool {
         let reached = |call: Call| possible(call).iter().all(|r| self.count(call, *r) > 0);
-        let ledgers = COMPACTED.iter().map(|(name, _)| *name).chain([ROOM_USED]);
-        let met = |name: &str| self.compacted.get(name).is_some_and(|count| *count > 0);
-        CALLS.iter().all(|(call, _)| reached(*call)) && ledgers.into_iter().all(met)
+        let met = |kind| self.ledgers.get(&kind).is_some_and(|count| *count > 0);
+        CALLS.iter().all(|(call, _)| reached(*call)) && ledgers().all(met)
     }
 
     fn print_sizes(&self) {
@@ -168,9 +300,9 @@ impl Tally {
         self.rare
             .iter()
             .for_each(|(name, count)| println!("{name}: {count}"));
-        self.compacted
+        self.ledgers
             .iter()
-            .for_each(|(name, count)| println!("ledgers compacted, {name}: {count}"));
+            .for_each(|((what, name), count)| println!("{what}, {name}: {count}"));
     }
 
     pub fn print(&self) {

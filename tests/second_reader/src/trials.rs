@@ -10,6 +10,7 @@ use crate::ledger::{self, Date, Entry};
 use crate::model::Model;
 use crate::random::Random;
 use crate::sample::{self, Layout};
+use crate::why_claims;
 
 fn one_row(columns: usize, width: u32, underflow: u32) -> Layout {
     Layout::one_row(columns, (width, underflow), 32)
@@ -169,6 +170,132 @@ fn a_wrong_compaction_breaks_the_claim() {
     assert!(claim_holds(&case, &[]));
 }
 
+/// The claims found broken where questions for pixel 1, or for the day after the keep date, are answered this way.
+fn broken(call: Call, answer: impl Fn(&Step, &mut Outcome) -> u64) -> Vec<&'static str> {
+    let (case, _) = compacted_case();
+    let date = (2031, 11, 3);
+    let step = Step {
+        call,
+        pixel: 1,
+        date,
+        ..case.step
+    };
+    let make = |step: &Step, out: &mut Outcome| match step.call.is_why() {
+        true => answer(step, out),
+        false => compare::second_step(step, out),
+    };
+    let mut out = Outcome::new(&case);
+    make(&step, &mut out);
+    why_claims::check(&step, &mut out, &make);
+    out.broken
+}
+
+/// Asked as if so many lines were used.
+fn ask_of(lines: u64, step: &Step, out: &mut Outcome) -> u64 {
+    let used = std::mem::replace(&mut out.after.lines, lines);
+    let refusal = compare::second_step(step, out);
+    out.after.lines = used;
+    refusal
+}
+
+#[test]
+fn a_wrong_line_breaks_the_claims() {
+    let (case, _) = compacted_case();
+    let listed = "the last one listed";
+    for call in [Call::WhyDay, Call::WhyPixel] {
+        assert!(broken(call, compare::second_step).is_empty());
+    }
+    let without_last = |step: &Step, out: &mut Outcome| ask_of(out.after.lines - 1, step, out);
+    assert!(broken(Call::WhyPixel, without_last).contains(&listed));
+    let without_withdrawal = |step: &Step, out: &mut Outcome| ask_of(2, step, out);
+    let found = broken(Call::WhyDay, without_withdrawal);
+    assert_eq!(found[..2], ["the purge question's refusal", listed]);
+    let as_at_first = |step: &Step, out: &mut Outcome| ask_of(case.lines, step, out);
+    let found = broken(Call::WhyPixel, as_at_first);
+    assert_eq!(found, ["an earlier one after withdrawals"]);
+    let before = |step: &Step, out: &mut Outcome| {
+        let ledger = std::mem::replace(&mut out.after.ledger, case.ledger.clone());
+        let refusal = ask_of(case.lines, step, out);
+        out.after.ledger = ledger;
+        refusal
+    };
+    assert!(broken(Call::WhyPixel, before).contains(&"the same after compaction"));
+}
+
+#[test]
+fn a_wrong_count_breaks_the_claim() {
+    let found = |pixel: u64, opened: [u32; 2], lines: u64| {
+        let (mut case, _) = compacted_case();
+        (case.pixels, case.step.pixel) = (opened.to_vec(), pixel);
+        case.step.call = Call::WhyPixel;
+        let mut out = Outcome::new(&case);
+        ask_of(lines, &case.step, &mut out);
+        why_claims::check_count(pixel, &mut out, &compare::second_step);
+        out.broken.is_empty()
+    };
+    assert!(found(0, [5, 7], 4) && found(1, [5, 7], 4) && found(2, [5, 7], 4));
+    assert!(!found(0, [6, 7], 4));
+    assert!(!found(1, [5, 7], 3));
+    assert!(!found(1, [5, 7], 0));
+}
+
+#[test]
+fn the_line_that_decides() {
+    let correction = |pixel| Entry::Correction {
+        pixel,
+        old: 7,
+        new: 8,
+    };
+    let keep = |year| Entry::Keep(day(year, 2, 28));
+    let gone = Entry::Withdrawal;
+    let lines = [
+        correction(3),
+        keep(2040),
+        keep(2031),
+        correction(3),
+        keep(2050),
+        gone,
+        gone,
+        correction(4),
+    ];
+    let ledger: Vec<u8> = lines.iter().flat_map(|line| line.bytes()).collect();
+    let on = |lines, year, month, date| ledger::why_day(&ledger, lines, day(year, month, date));
+    assert_eq!(on(8, 2031, 2, 28), (27, 3));
+    assert_eq!(on(8, 2031, 3, 1), (0, 3));
+    assert_eq!(on(5, 2031, 3, 1), (27, 5));
+    assert_eq!(on(1, 2031, 3, 1), (26, 0));
+    assert_eq!(on(8, 2031, 2, 29), (25, 0));
+    assert_eq!(on(9, 2031, 2, 29), (20, 0));
+    let of = |lines, pixel| ledger::why_pixel(&ledger, lines, pixel);
+    assert_eq!((of(8, 3), of(6, 3), of(3, 3)), ((0, 1), (0, 4), (0, 1)));
+    assert_eq!((of(8, 4), of(7, 4), of(0, 3)), ((0, 8), (0, 0), (0, 0)));
+    assert_eq!(
+        (of(8, 3 + (1 << 24)), of(8, 3 + (1 << 32))),
+        ((0, 0), (0, 0))
+    );
+    assert_eq!((of(8, u64::MAX), of(9, 3)), ((0, 0), (20, 0)));
+}
+
+#[test]
+fn the_model_numbers_lines_anew() {
+    let mut model = Model {
+        ledger_length: 8 * 16,
+        ..pair_model()
+    };
+    assert!(model.correct(0, 6).is_ok() && model.withdraw().is_ok());
+    assert!(model.keep(day(2031, 11, 2)).is_ok() && model.correct(1, 8).is_ok());
+    assert!(model.amend(9).is_ok());
+    assert_eq!(model.why_day(day(2031, 11, 3)), (0, 3));
+    assert_eq!(model.why_day(day(2031, 11, 2)), (27, 3));
+    assert_eq!((model.why_pixel(0), model.why_pixel(1)), ((0, 0), (0, 6)));
+    model.compact();
+    assert_eq!(model.why_day(day(2031, 11, 3)), (0, 1));
+    assert_eq!((model.why_pixel(0), model.why_pixel(1)), ((0, 0), (0, 2)));
+    assert!(model.correct(1, 5).is_ok());
+    assert_eq!((model.why_pixel(1), model.lines), ((0, 3), 3));
+    assert_eq!(model.why_day(day(2031, 2, 29)), (25, 0));
+}
+
 #[test]
 fn an_amend_keeps_the_count_before() {
     let header = sample::header(&mut Random(1), &one_row(2, 4, 0));
@@ -231,7 +358,7 @@ fn the_model_has_room_after_compaction() {
     assert!(model.withdraw().is_ok());
     assert_eq!(model.keep(day(2032, 1, 1)), Err(21));
     model.compact();
-    assert_eq!((model.lines, &model.stack), (1, &vec![keep]));
+    assert_eq!((model.lines, model.entries()), (1, vec![keep]));
     assert!(model.correct(0, 6).is_ok());
     assert_eq!((model.pixels(), model.lines), (vec![6, 7], 2));
 }
