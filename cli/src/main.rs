@@ -29,6 +29,7 @@ mod output;
 mod outputs;
 mod picture;
 mod pixels;
+mod purge;
 mod purge_log;
 mod redo;
 mod refusals;
@@ -100,7 +101,7 @@ fn run(output: &mut Output, command: Command, seconds: Option<u32>) -> Outcome<(
         Command::Withdraw { names } => holdings::withdraw(output, &names, wait),
         Command::Compact(asked) => compaction::compact(output, &asked, wait),
         Command::List { names } => holdings::list(output, &names, wait),
-        Command::MayPurge { name, day } => holdings::may_purge(output, &Holding::named(&name, wait)?, day),
+        Command::MayPurge { name, day } => purge::may_purge(output, &Holding::named(&name, wait)?, day),
         Command::Verify(asked) => verify::verify(output, &asked, wait),
         Command::Sweep(asked) => {
             let seconds = seconds.unwrap_or(SWEEP_WAIT);
