@@ -1,15 +1,12 @@
 //! compact, by the real command: what is left of a ledger, the log of what went, and what other commands do with it.
 mod common;
-use common::{command, folder, plain_frame, ran, state_of, Folder, Ran};
+use common::{command, folder, plain_frame, ran, state_of, Folder, Ran, DUE};
 use serde_json::{json, Value};
 use std::ffi::OsStr;
 use std::fs::{self, Permissions};
 use std::os::unix::ffi::OsStrExt;
 use std::os::unix::fs::{symlink, PermissionsExt};
 use std::process::Command;
-
-/// The day on which a holding kept until 2031-11-02 may go.
-const DUE: &str = "2031-11-03";
 
 /// Runs these commands one after the other.
 fn all(f: &Folder, commands: &[&str]) {

@@ -2,7 +2,7 @@
 //!
 //! A library preloaded into the real command makes one call fail or ends the process there (fault.c).
 mod common;
-use common::{command_on, folder, plain_frame, ran, state_of, Folder, Ran, State, ENDINGS, TODAY};
+use common::{command_on, folder, plain_frame, ran, state_of, Folder, Ran, State, DUE, ENDINGS, TODAY};
 use std::collections::BTreeSet;
 use std::fs;
 use std::process::Command;
@@ -11,8 +11,6 @@ use std::sync::OnceLock;
 const KILLS: [&str; 3] = ["before", "after", "torn"];
 /// EIO, ENOSPC, EROFS.
 const ERRORS: [&str; 3] = ["5", "28", "30"];
-/// The day on which the holding of these tests may go.
-const DUE: &str = "2031-11-03";
 
 /// The command in this folder. Sweeps run on the day that the holding is due.
 fn prepared(f: &Folder, words: &str) -> Command {

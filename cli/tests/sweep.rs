@@ -1,6 +1,6 @@
 //! The purge job.
 mod common;
-use common::{command_on, folder, ran, Folder};
+use common::{command_on, folder, ran, Folder, DUE};
 use std::ffi::OsStr;
 use std::fs;
 use std::os::unix::ffi::OsStrExt;
@@ -9,9 +9,6 @@ use std::path::PathBuf;
 /// A ledger line: kept until 2031-11-02.
 const KEPT: [u8; 16] = [0x5f, 0xbe, 0xc4, 0, 0, 0, 0, 0, 0, 0, 0, 0, 0, 0, 0, 0];
 const WITHDRAWAL: [u8; 16] = [0x80, 0, 0, 0, 0, 0, 0, 0, 0, 0, 0, 0, 0, 0, 0, 0];
-
-/// The day on which a holding kept until 2031-11-02 may go.
-const DUE: &str = "2031-11-03";
 
 fn holding(f: &Folder, name: &str, ledger: &[u8]) {
     f.put(&format!("{name}.held"), "frame");
@@ -224,6 +221,20 @@ fn a_holding_moved_into_a_bin_is_whole_there_and_is_asked_again() {
 fn killed_after(f: &Folder, words: &str, call: &str) {
     let mut sweep = command_on(DUE);
     sweep.args(words.split(' ')).current_dir(f.path()).env("FAULT", "after").env("FAULT_AT", call).output().unwrap();
+}
+
+#[test]
+fn a_removal_that_is_finished_later_names_its_line_while_the_ledger_is_there() {
+    let reason = "deleted       ./a  line 2 kept it until 2031-11-02";
+    for (call, said) in [("unlink a.held", reason), ("unlink a.ledger", "deleted       ./a")] {
+        let f = folder();
+        holding(&f, "a", &[KEPT, KEPT].concat());
+        killed_after(&f, "sweep . --delete", call);
+        assert!(f.has("a.redo") && !f.has("a.held"), "{call}");
+        let ran = f.run_on(DUE, "sweep . --delete");
+        assert_eq!((ran.status, ran.out.lines().next()), (Some(0), Some(said)), "{call}");
+        assert!(log(&f).contains("./a: deleting\n  decided by line 2: kept until 2031-11-02\n"), "{}", log(&f));
+    }
 }
 
 #[test]

@@ -1,11 +1,8 @@
 //! why by the real command: the ledger line that decides for a day or a pixel, and the same line in may-purge, sweep, its log and report.
 mod common;
-use common::{command, command_on, folder, ran, Folder, Ran};
+use common::{command, command_on, folder, ran, Folder, Ran, DUE};
 use serde_json::{json, Value};
 use std::fs::{self, File};
-
-/// The day on which a holding kept until 2031-11-02 may go.
-const DUE: &str = "2031-11-03";
 
 /// Holding `a`, and these changes made in it.
 fn held(changes: &[&str]) -> Folder {
@@ -313,27 +310,19 @@ const DECIDED_BY_2: [&str; 5] =
     ["keep a 2040-01-01", "keep a 2031-11-02 --shorten", "correct a 3 300", "keep a 2050-01-01", "withdraw a"];
 
 #[test]
-fn what_is_deleted_names_its_line_in_the_answer_and_in_the_log() {
-    let f = held(&DECIDED_BY_2);
-    let (said, log) = swept(&f, "sweep . --delete");
-    assert_eq!(said.lines().next(), Some("deleted       ./a  line 2 kept it until 2031-11-02"));
-    assert!(log.contains("./a: deleting\n  decided by line 2: kept until 2031-11-02\n"), "{log}");
-    let f = held(&DECIDED_BY_2);
-    let (said, _) = swept(&f, "sweep . --delete --json");
-    let expected = r#"{"name":"./a","answer":"deleted","decided_by":2,"kept_until":"2031-11-02"}"#;
-    assert_eq!(said.lines().next(), Some(expected));
-}
-
-#[test]
-fn what_is_moved_names_its_line_in_the_answer_and_in_the_log() {
-    let f = held(&DECIDED_BY_2);
-    let (said, log) = swept(&f, "sweep . --into bin");
-    assert_eq!(said.lines().next(), Some("moved         ./a  to bin/a  line 2 kept it until 2031-11-02"));
-    assert!(log.contains("./a: moving to bin/a\n  decided by line 2: kept until 2031-11-02\n"), "{log}");
-    let f = held(&DECIDED_BY_2);
-    let (said, _) = swept(&f, "sweep . --into bin --json");
-    let expected = r#"{"name":"./a","answer":"moved","to":"bin/a","decided_by":2,"kept_until":"2031-11-02"}"#;
-    assert_eq!(said.lines().next(), Some(expected));
+fn what_goes_names_its_line_in_the_answer_and_in_the_log() {
+    for (option, said, to, logged) in [
+        ("--delete", "deleted       ./a", "", "deleting"),
+        ("--into bin", "moved         ./a  to bin/a", r#""to":"bin/a","#, "moving to bin/a"),
+    ] {
+        let (text, log) = swept(&held(&DECIDED_BY_2), &format!("sweep . {option}"));
+        assert_eq!(text.lines().next(), Some(format!("{said}  line 2 kept it until 2031-11-02").as_str()));
+        assert!(log.contains(&format!("./a: {logged}\n  decided by line 2: kept until 2031-11-02\n")), "{log}");
+        let (data, _) = swept(&held(&DECIDED_BY_2), &format!("sweep . {option} --json"));
+        let word = said.split(' ').next().unwrap();
+        let object = format!(r#"{{"name":"./a","answer":"{word}",{to}"decided_by":2,"kept_until":"2031-11-02"}}"#);
+        assert_eq!(data.lines().next(), Some(object.as_str()));
+    }
 }
 
 #[test]
@@ -349,32 +338,14 @@ fn the_log_has_what_was_answered_with_the_lock_held() {
     assert!(log.contains("./a: deleting\n  decided by line 2: kept until 2030-01-01\n"), "{log}");
 }
 
-/// A sweep that is killed after one call.
-fn killed_after(f: &Folder, words: &str, call: &str) {
-    let mut sweep = command_on(DUE);
-    sweep.args(words.split(' ')).current_dir(f.path()).env("FAULT", "after").env("FAULT_AT", call);
-    assert_eq!(ran(sweep.output().unwrap()).status, None, "{call}");
-}
-
-#[test]
-fn a_removal_that_is_finished_later_names_its_line_while_the_ledger_is_there() {
-    for (call, reason) in [("unlink a.held", "  line 2 kept it until 2031-11-02"), ("unlink a.ledger", "")] {
-        let f = held(&DECIDED_BY_2);
-        killed_after(&f, "sweep . --delete", call);
-        let (said, log) = swept(&f, "sweep . --delete");
-        assert_eq!(said.lines().next(), Some(format!("deleted       ./a{reason}").as_str()), "{call}");
-        assert!(log.contains("decided by line 2: kept until 2031-11-02\n"), "{log}");
-    }
-}
-
 #[test]
 fn sweep_and_report_name_the_line_that_why_names() {
     let f = held(&DECIDED_BY_2);
     for asked in ["2031-11-02", DUE] {
-        let [why, swept] = [format!("why a --day {asked} --json"), format!("sweep . --day {asked} --json")]
-            .map(|words| serde_json::from_str::<Value>(f.run(&words).out.lines().next().unwrap()).unwrap());
-        let row: Value =
-            serde_json::from_str(f.run(&format!("report . --day {asked} --json")).out.lines().next().unwrap()).unwrap();
+        let [why, swept, row] = ["why a", "sweep .", "report ."].map(|words| {
+            let ran = f.run(&format!("{words} --day {asked} --json"));
+            serde_json::from_str::<Value>(ran.out.lines().next().unwrap()).unwrap()
+        });
         for key in ["decided_by", "kept_until"] {
             assert_eq!((&why[key], &why[key]), (&swept[key], &row[key]), "{asked}: {key}");
         }
