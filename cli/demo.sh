@@ -22,6 +22,8 @@ run correct ex 100,250 90
 run keep ex 2031-11-02
 run may-purge ex 2031-11-02
 run may-purge ex 2031-11-03
+run why ex --day 2031-11-03
+run why ex --pixel 100,250
 run withdraw ex
 run may-purge ex 2031-11-03
 run list ex

@@ -3,7 +3,7 @@ use crate::formats::{self, Format};
 use crate::given::{Dated, Names};
 use crate::options::{ExpandOptions, InfoOptions, ViewOptions};
 use crate::shard::{self, Shard};
-use clap::{Arg, Args, Parser, Subcommand};
+use clap::{Arg, ArgGroup, Args, Parser, Subcommand};
 use clap_complete::Shell;
 use quayrudder::{Date, Form};
 use std::path::PathBuf;
@@ -122,6 +122,15 @@ pub enum Command {
         #[arg(value_name = "YYYY-MM-DD", value_parser = parse_date)]
         day: Date,
     },
+    /// Which ledger line decides whether a holding may be purged, or what the count of a pixel is? For a day the exit status is
+    /// that of may-purge
+    #[command(
+        group(ArgGroup::new("asked").args(["day", "pixel"]).required(true)),
+        override_usage = "quayrudder why [OPTIONS] <NAME> <--day <YYYY-MM-DD>|--pixel <PIXEL|ROW,COLUMN>>",
+        after_help = "Examples:\n  quayrudder why lyso1 --day 2031-11-03\n  quayrudder why lyso1 --pixel 2577\n  \
+                      quayrudder why lyso1 --pixel 5,17"
+    )]
+    Why(Why),
     /// Check that holdings are what their sums say and that held frames agree with their ledgers
     #[command(
         mut_arg("names", holdings_or_folders),
@@ -279,6 +288,18 @@ pub struct Compact {
     /// Do not keep the listing before: what the lines were is then gone
     #[arg(long)]
     pub no_log: bool,
+}
+
+#[derive(Args)]
+pub struct Why {
+    /// The holding
+    pub name: PathBuf,
+    /// The day to ask for: may the holding be purged, and which keep line decides?
+    #[arg(long, value_name = "YYYY-MM-DD", value_parser = parse_date)]
+    pub day: Option<Date>,
+    /// The pixel's number, for which only the ledger is read, or its ROW,COLUMN: which correction that stands set it last?
+    #[arg(long, value_name = "PIXEL|ROW,COLUMN", value_parser = parse_place)]
+    pub pixel: Option<Place>,
 }
 
 #[derive(Args)]

@@ -1,13 +1,14 @@
-//! The commands on holdings that touch one line: keep, withdraw, list, may-purge.
+//! The commands on holdings that touch one line: keep, withdraw, list.
 use crate::args::Keep;
 use crate::batch::Said;
 use crate::clock::{self, date_text};
-use crate::failure::{shown, Failure, Outcome, Refused, NO};
+use crate::failure::{shown, Failure, Outcome, Refused};
 use crate::given::Names;
 use crate::holding::{Change, Holding};
 use crate::ledger::{self, Entry, Lent, Line};
 use crate::names::{self, Doubled, Item};
 use crate::output::Output;
+use crate::purge;
 use crate::refusals::{sentence, withdraw_sentence, Sentences};
 use crate::room;
 use crate::shard::Shard;
@@ -73,7 +74,7 @@ fn kept(holding: &Holding, date: Date, shorten: bool, many: bool) -> Outcome<Sai
     let mut lent = Lent::new(found.ledger.clone(), 1);
     let answer = quayrudder::keep(&mut lent.bytes, lent.lines, date);
     accepted(holding, answer.refusal, &lent.bytes)?;
-    let former = ledger::keep_date(&ledger::listing(&found.ledger));
+    let former = purge::keep_line(&found.ledger).map(|keep| keep.until);
     let (name, until) = (shown(&holding.name), date_text(date));
     if many && former.as_ref() == Some(&until) {
         let text = format!("{name}: already kept until {until}");
@@ -118,7 +119,7 @@ fn withdrawn(holding: &Holding) -> Outcome<Said> {
     let taken = ledger::last_standing(&ledger::listing(&found.ledger));
     let (mut text, mut value) = withdrawal(holding, answer.lines, taken.as_ref());
     if let Some(Line { entry: Entry::Keep { .. }, .. }) = taken {
-        let now = ledger::keep_date(&ledger::listing(ledger));
+        let now = purge::keep_line(ledger).map(|keep| keep.until);
         text += &now.as_ref().map_or("; no keep date stands now".into(), |now| format!("; now kept until {now}"));
         value["kept_until"] = json!(now);
     }
@@ -140,16 +141,22 @@ pub fn accepted(holding: &Holding, refusal: u32, ledger: &[u8]) -> Outcome<()> {
     accepted_or(holding, refusal, ledger, sentence)
 }
 
-/// A refusal names the file that it is about, and has its sentence from these.
 pub fn accepted_or(holding: &Holding, refusal: u32, ledger: &[u8], sentences: Sentences) -> Outcome<()> {
-    let (file, note) = match refusal {
-        0 => return Ok(()),
+    match refusal {
+        0 => Ok(()),
+        number => Err(refused(holding, number, ledger, sentences)),
+    }
+}
+
+/// A refusal names the file that it is about, and has its sentence from these.
+pub fn refused(holding: &Holding, number: u32, ledger: &[u8], sentences: Sentences) -> Failure {
+    let (file, note) = match number {
         17 | 18 | 19 | 23 | 24 => (&holding.held, String::new()),
         20 => (&holding.ledger, ledger::length_note(ledger)),
         _ => (&holding.name, String::new()),
     };
-    let (file, said) = (file.clone(), sentences(refusal));
-    Err(Failure::Refused(Refused { file, number: refusal, place: 0, column: 0, note, said }))
+    let (file, said) = (file.clone(), sentences(number));
+    Failure::Refused(Refused { file, number, place: 0, column: 0, note, said })
 }
 
 pub fn line_text(line: &Line) -> String {
@@ -188,32 +195,4 @@ fn listed(holding: &Holding, many: bool) -> Outcome<Said> {
     let indented: String = listing.lines().map(|line| format!("\n  {line}")).collect();
     let text = if many { format!("{name}:{indented}") } else { listing };
     Ok(Said { text, value, counted: LISTED })
-}
-
-pub fn may_purge(output: &mut Output, holding: &Holding, day: Date) -> Outcome<()> {
-    let (text, value) = purge_answer(holding, &holding.ask_ledger()?, day)?;
-    if value["may_purge"] == false {
-        output.status(NO);
-    }
-    output.say(&text, &value)
-}
-
-/// What this ledger answers to the purge question. 26 and 27 are its two kinds of no.
-pub fn purge_answer(holding: &Holding, bytes: &[u8], day: Date) -> Outcome<(String, Value)> {
-    let (name, number) = (shown(&holding.name), quayrudder::may_purge(bytes, ledger::lines(bytes), day));
-    match number {
-        26 => {
-            let value = json!({"name": name, "may_purge": false, "refusal": 26});
-            Ok((format!("no: {name} has no keep date that stands"), value))
-        }
-        27 => {
-            let until = ledger::keep_date(&ledger::listing(bytes)).unwrap_or_default();
-            let value = json!({"name": name, "may_purge": false, "refusal": 27, "kept_until": until});
-            Ok((format!("not yet: {name} is kept until {until}"), value))
-        }
-        _ => {
-            accepted(holding, number, bytes)?;
-            Ok((format!("yes: {name} may be purged"), json!({"name": name, "may_purge": true})))
-        }
-    }
 }

@@ -1,5 +1,6 @@
 //! A ledger's bytes as the library is lent them, and its listing taken apart.
 use quayrudder::Date;
+use std::fmt::{self, Display, Formatter};
 
 const LINE: usize = 16;
 
@@ -69,6 +70,19 @@ pub enum Entry {
     Withdraw,
 }
 
+/// As the listing has it.
+impl Display for Line {
+    fn fmt(&self, f: &mut Formatter) -> fmt::Result {
+        write!(f, "line {} ", self.number)?;
+        match &self.entry {
+            Entry::Correct { pixel, old, new } => write!(f, "correct {pixel} {old} {new}")?,
+            Entry::Keep { date } => write!(f, "keep {date}")?,
+            Entry::Withdraw => f.write_str("withdraw")?,
+        }
+        f.write_str(if self.withdrawn { " withdrawn" } else { "" })
+    }
+}
+
 /// The listing's lines, the last first.
 pub fn backwards(listing: &str) -> impl Iterator<Item = Line> + '_ {
     listing.lines().rev().filter_map(parse)
@@ -79,17 +93,11 @@ pub fn last_standing(listing: &str) -> Option<Line> {
     backwards(listing).find(|line| !line.withdrawn && line.entry != Entry::Withdraw)
 }
 
-/// The last keep line that stands: its number and its date.
-pub fn keep_line(listing: &str) -> Option<(u64, String)> {
-    backwards(listing).filter(|line| !line.withdrawn).find_map(|line| match line.entry {
-        Entry::Keep { date } => Some((line.number, date)),
-        _ => None,
-    })
-}
-
-/// The date of the last keep line that stands.
-pub fn keep_date(listing: &str) -> Option<String> {
-    keep_line(listing).map(|(_, date)| date)
+/// A line that stands, by its number from 1; none for 0. Its bytes alone are a ledger of one line, so only this line is listed.
+pub fn line(ledger: &[u8], number: u64) -> Option<Line> {
+    let place = usize::try_from(number).ok()?.checked_sub(1)?;
+    let alone = ledger.chunks_exact(LINE).nth(place)?;
+    backwards(&listing(alone)).next().map(|line| Line { number, ..line })
 }
 
 fn parse(text: &str) -> Option<Line> {
@@ -118,7 +126,41 @@ mod tests {
         let withdraw = Line { number: 3, entry: Entry::Withdraw, withdrawn: false };
         assert_eq!(lines, [withdraw, correct, keep.clone()]);
         assert_eq!(last_standing(LISTING), Some(keep));
-        assert_eq!(keep_date(LISTING), Some("2031-11-02".into()));
+    }
+
+    #[test]
+    fn a_line_is_said_as_the_listing_has_it() {
+        let mut said: Vec<String> = backwards(LISTING).map(|line| line.to_string()).collect();
+        said.reverse();
+        assert_eq!(said.join("\n") + "\nstanding 1\n", LISTING);
+    }
+
+    /// Three corrections of pixel 17, a keep date between them, and a withdrawal of the last.
+    fn some_lines() -> Vec<u8> {
+        let correct = |old: u128, new: u128| (17u128 << 81 | old << 49 | new << 17).to_be_bytes();
+        let keep = [[0x5f, 0xbe, 0xc4].as_slice(), &[0; 13]].concat();
+        let withdraw = [[0x80].as_slice(), &[0; 15]].concat();
+        [correct(63, 300).as_slice(), &keep, &correct(300, 301), &correct(301, 5), &withdraw].concat()
+    }
+
+    #[test]
+    fn a_line_alone_is_what_the_whole_listing_has_at_its_place() {
+        let ledger = some_lines();
+        let listed: Vec<Line> = backwards(&listing(&ledger)).collect();
+        assert_eq!((listed.len(), listed[1].withdrawn), (5, true));
+        for whole in listed.iter().filter(|line| line.entry != Entry::Withdraw && !line.withdrawn) {
+            assert_eq!(line(&ledger, whole.number).as_ref(), Some(whole));
+        }
+        let third = Line { number: 3, entry: Entry::Correct { pixel: 17, old: 300, new: 301 }, withdrawn: false };
+        assert_eq!(line(&ledger, 3), Some(third));
+    }
+
+    #[test]
+    fn there_is_no_line_0_and_none_past_the_last() {
+        let ledger = some_lines();
+        assert_eq!([0, 6, u64::MAX].map(|number| line(&ledger, number)), [None, None, None]);
+        assert_eq!(line(&ledger[..15], 1), None);
+        assert_eq!(line(&[], 1), None);
     }
 
     #[test]

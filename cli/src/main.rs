@@ -29,6 +29,7 @@ mod output;
 mod outputs;
 mod picture;
 mod pixels;
+mod purge;
 mod purge_log;
 mod redo;
 mod refusals;
@@ -47,6 +48,7 @@ mod totals;
 mod verify;
 mod view;
 mod walk;
+mod why;
 
 use args::{Cli, Command};
 use clap::Parser;
@@ -100,7 +102,8 @@ fn run(output: &mut Output, command: Command, seconds: Option<u32>) -> Outcome<(
         Command::Withdraw { names } => holdings::withdraw(output, &names, wait),
         Command::Compact(asked) => compaction::compact(output, &asked, wait),
         Command::List { names } => holdings::list(output, &names, wait),
-        Command::MayPurge { name, day } => holdings::may_purge(output, &Holding::named(&name, wait)?, day),
+        Command::MayPurge { name, day } => purge::may_purge(output, &Holding::named(&name, wait)?, day),
+        Command::Why(asked) => why::why(output, &asked, wait),
         Command::Verify(asked) => verify::verify(output, &asked, wait),
         Command::Sweep(asked) => {
             let seconds = seconds.unwrap_or(SWEEP_WAIT);

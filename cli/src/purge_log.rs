@@ -5,6 +5,7 @@ use crate::failure::{shown, Failure, Outcome};
 use crate::files;
 use crate::holding::Contents;
 use crate::ledger;
+use crate::purge::Keep;
 use std::fs::{File, OpenOptions};
 use std::io::Write;
 use std::path::{Path, PathBuf};
@@ -25,12 +26,9 @@ impl Log {
     }
 
     /// What is about to be done, the line that decides it, and all that the log will have of the holding.
-    pub fn before(&mut self, what: &str, name: &Path, found: &Contents) -> Outcome<()> {
+    pub fn before(&mut self, what: &str, name: &Path, found: &Contents, by: &Keep) -> Outcome<()> {
         let (listing, state) = (ledger::listing(&found.ledger), &found.state);
-        let decided = match ledger::keep_line(&listing) {
-            Some((line, date)) => format!("decided by line {line}: kept until {date}"),
-            None => "decided by no line".to_string(),
-        };
+        let decided = format!("decided by line {}: kept until {}", by.line, by.until);
         let (held, ledger) = (file_text(&state.held), file_text(&state.ledger));
         let log = found.log.as_ref().map_or(String::new(), |log| {
             format!("  compacted {}\n{}", file_text(&state.log), quoted(&String::from_utf8_lossy(log)))

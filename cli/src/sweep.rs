@@ -5,9 +5,9 @@ use crate::failure::{shown, Failure, Outcome, DAMAGED, DONE, MACHINE};
 use crate::files;
 use crate::holding::{Holding, Owned};
 use crate::holdings::must_be_in_calendar;
-use crate::ledger;
 use crate::locks;
 use crate::output::{progress, Output};
+use crate::purge::{self, Keep, Purge};
 use crate::purge_log::Log;
 use crate::refusals::sentence;
 use crate::removal::Interrupted;
@@ -27,14 +27,26 @@ const BATCH: usize = 1024;
 /// What a ledger answers, or what became of its holding.
 #[derive(Clone, Debug, PartialEq, Eq)]
 enum Answer {
-    Yes,
-    Deleted,
-    Moved { to: PathBuf },
-    NotYet { until: String },
-    NoKeepLine,
-    Refused { number: u32 },
-    Failed { why: String, status: u8 },
+    Asked(Purge),
+    /// With a record beside it: what that says is settled where the holding goes, and it is asked there.
+    Unsettled,
+    Gone(Gone),
+    Refused {
+        number: u32,
+    },
+    Failed {
+        why: String,
+        status: u8,
+    },
     NotAHolding,
+}
+
+/// What went, and the line that decided it, unless an earlier sweep began and took the ledger.
+#[derive(Clone, Debug, PartialEq, Eq)]
+struct Gone {
+    /// Where it was moved to; else it was deleted.
+    to: Option<PathBuf>,
+    by: Option<Keep>,
 }
 
 /// What is to be done with a holding that may go.
@@ -118,8 +130,7 @@ impl Job<'_> {
                 }
                 None
             }
-            // What a record says is settled where the holding goes.
-            Kind::Holding if self.removes && lies.redo => Some(Answer::Yes),
+            Kind::Holding if self.removes && lies.redo => Some(Answer::Unsettled),
             Kind::Holding => {
                 let asked = self.holding(name).ask_ledger();
                 Some(asked.map_or_else(|failure| Answer::failed(&failure), |ledger| self.answer(&ledger)))
@@ -127,13 +138,8 @@ impl Job<'_> {
         }
     }
 
-    fn answer(&self, bytes: &[u8]) -> Answer {
-        match quayrudder::may_purge(bytes, ledger::lines(bytes), self.day) {
-            0 => Answer::Yes,
-            26 => Answer::NoKeepLine,
-            27 => Answer::NotYet { until: ledger::keep_date(&ledger::listing(bytes)).unwrap_or_default() },
-            number => Answer::Refused { number },
-        }
+    fn answer(&self, ledger: &[u8]) -> Answer {
+        purge::ask(ledger, self.day).map_or_else(|number| Answer::Refused { number }, Answer::Asked)
     }
 
     /// Removes what a killed process left where no holding came to be, or where one has gone.
@@ -162,7 +168,7 @@ impl Job<'_> {
         for ((name, lies), found) in names.iter().zip(answers) {
             let last = match (found, log.as_mut()) {
                 (None, _) => continue,
-                (Some(Answer::Yes), Some(log)) => self.remove(name, lies, log)?,
+                (Some(Answer::Asked(Purge::Yes(_)) | Answer::Unsettled), Some(log)) => self.remove(name, lies, log)?,
                 (Some(found), _) => found,
             };
             totals.count(&["ledgers", last.word()]);
@@ -191,38 +197,43 @@ impl Job<'_> {
             Ok(contents) => contents,
             Err(failure) => return Ok(Answer::failed(&failure)),
         };
-        let again = self.answer(&contents.ledger);
-        if again != Answer::Yes {
-            return Ok(again);
-        }
+        let by = match self.answer(&contents.ledger) {
+            Answer::Asked(Purge::Yes(keep)) => keep,
+            again => return Ok(again),
+        };
         let into = self.into.map(|into| into.join(name.strip_prefix(self.folder).unwrap_or(name)));
         let what = into.as_ref().map_or("deleting".into(), |to| format!("moving to {}", shown(to)));
-        log.before(&what, name, &contents)?;
+        log.before(&what, name, &contents, &by)?;
         let removed = owned.remove(contents.state, into.as_deref());
-        self.log_removal(owned, removed, into, log)
+        log_removal(owned, removed, Gone { to: into, by: Some(by) }, log)
     }
 
+    /// The ledger, while it is here, is the one that was asked when this began.
     fn finish(&self, owned: &Owned, removal: &Interrupted, log: &mut Log) -> Outcome<Answer> {
         log.after("finishing what was cut short", &owned.holding.name)?;
+        let ledger = files::read_if_there(&owned.holding.ledger).ok().flatten();
+        let by = ledger.and_then(|ledger| purge::keep_line(&ledger));
         let removed = owned.remove_the_rest(removal);
-        self.log_removal(owned, removed, removal.into.clone(), log)
+        log_removal(owned, removed, Gone { to: removal.into.clone(), by }, log)
     }
+}
 
-    fn log_removal(
-        &self,
-        owned: &Owned,
-        removed: Outcome<()>,
-        into: Option<PathBuf>,
-        log: &mut Log,
-    ) -> Outcome<Answer> {
-        let name = &owned.holding.name;
-        let done = if into.is_some() { "moved" } else { "deleted" };
-        match removed {
-            Ok(()) => log.after(done, name).map(|()| into.map_or(Answer::Deleted, |to| Answer::Moved { to })),
-            Err(failure) => {
-                log.after(&owned.remains(done), name)?;
-                Ok(Answer::failed(&failure))
-            }
+fn log_removal(owned: &Owned, removed: Outcome<()>, gone: Gone, log: &mut Log) -> Outcome<Answer> {
+    let (name, done) = (&owned.holding.name, gone.word());
+    match removed {
+        Ok(()) => log.after(done, name).map(|()| Answer::Gone(gone)),
+        Err(failure) => {
+            log.after(&owned.remains(done), name)?;
+            Ok(Answer::failed(&failure))
+        }
+    }
+}
+
+impl Gone {
+    fn word(&self) -> &'static str {
+        match self.to {
+            Some(_) => "moved",
+            None => "deleted",
         }
     }
 }
@@ -242,36 +253,48 @@ impl Answer {
 
     fn word(&self) -> &'static str {
         match self {
-            Answer::Yes => "yes",
-            Answer::Deleted => "deleted",
-            Answer::Moved { .. } => "moved",
-            Answer::NotYet { .. } => "not yet",
-            Answer::NoKeepLine => "no keep line",
+            Answer::Asked(answer) => answer.word(),
+            Answer::Gone(gone) => gone.word(),
             Answer::Refused { .. } => "refused",
-            Answer::Failed { .. } => "failed",
+            Answer::Failed { .. } | Answer::Unsettled => "failed",
             Answer::NotAHolding => "not a holding",
         }
     }
 
-    fn text(&self, name: &Path) -> String {
-        let start = format!("{:<13} {}", self.word(), shown(name));
+    /// The line that decides or has decided.
+    fn by(&self) -> Option<&Keep> {
         match self {
-            Answer::Moved { to } => format!("{start}  to {}", shown(to)),
-            Answer::NotYet { until } => format!("{start}  kept until {until}"),
-            Answer::Refused { number } => format!("{start}  refusal {number}: {}", sentence(*number).meaning),
-            Answer::Failed { why, .. } => format!("{start}  {why}"),
-            _ => start,
+            Answer::Asked(answer) => answer.keep(),
+            Answer::Gone(gone) => gone.by.as_ref(),
+            _ => None,
+        }
+    }
+
+    fn text(&self, name: &Path) -> String {
+        let mut text = format!("{:<13} {}", self.word(), shown(name));
+        match self {
+            Answer::Gone(Gone { to: Some(to), .. }) => text += &format!("  to {}", shown(to)),
+            Answer::Refused { number } => text += &format!("  refusal {number}: {}", sentence(*number).meaning),
+            Answer::Failed { why, .. } => text += &format!("  {why}"),
+            _ => {}
+        }
+        match (self, self.by()) {
+            (_, None) => text,
+            (Answer::Asked(Purge::NotYet(_)), Some(keep)) => format!("{text}  {}", keep.present()),
+            (_, Some(keep)) => format!("{text}  {}", keep.past()),
         }
     }
 
     fn value(&self, name: &Path) -> Value {
         let mut value = json!({"name": shown(name), "answer": self.word()});
         match self {
-            Answer::Moved { to } => value["to"] = json!(shown(to)),
-            Answer::NotYet { until } => value["kept_until"] = json!(until),
+            Answer::Gone(Gone { to: Some(to), .. }) => value["to"] = json!(shown(to)),
             Answer::Refused { number } => value["refusal"] = json!(number),
             Answer::Failed { why, .. } => value["failed"] = json!(why),
             _ => {}
+        }
+        if let Some(keep) = self.by() {
+            keep.add_to(&mut value);
         }
         value
     }

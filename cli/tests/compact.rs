@@ -1,15 +1,12 @@
 //! compact, by the real command: what is left of a ledger, the log of what went, and what other commands do with it.
 mod common;
-use common::{command, folder, plain_frame, ran, state_of, Folder, Ran};
+use common::{command, folder, plain_frame, ran, state_of, Folder, Ran, DUE};
 use serde_json::{json, Value};
 use std::ffi::OsStr;
 use std::fs::{self, Permissions};
 use std::os::unix::ffi::OsStrExt;
 use std::os::unix::fs::{symlink, PermissionsExt};
 use std::process::Command;
-
-/// The day on which a holding kept until 2031-11-02 may go.
-const DUE: &str = "2031-11-03";
 
 /// Runs these commands one after the other.
 fn all(f: &Folder, commands: &[&str]) {
@@ -35,11 +32,18 @@ fn log(f: &Folder) -> String {
     String::from_utf8(f.get("a.compacted")).unwrap()
 }
 
-/// The answers to the purge question around both keep dates.
+/// The answers to the purge question around both keep dates, but for the number of the line that decides.
 fn purge_answers(f: &Folder) -> Vec<(Option<i32>, String)> {
     let days = ["2031-11-01", "2031-11-02", DUE, "2040-01-01", "2040-01-02", "2031-02-30"];
     let asked = days.iter().map(|day| f.run(&format!("may-purge a {day}")));
-    asked.map(|ran| (ran.status, ran.out + &ran.err)).collect()
+    asked.map(|ran| (ran.status, without_number(&(ran.out + &ran.err)))).collect()
+}
+
+/// A text without the word behind each `line`.
+fn without_number(text: &str) -> String {
+    let words: Vec<&str> = text.split_whitespace().collect();
+    let behind = |place: &usize| *place > 0 && words[place - 1] == "line";
+    (0..words.len()).filter(|place| !behind(place)).map(|place| words[place]).collect::<Vec<&str>>().join(" ")
 }
 
 /// A run that must end with this status, say this, and leave the holding as it is.

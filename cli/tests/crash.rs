@@ -2,7 +2,7 @@
 //!
 //! A library preloaded into the real command makes one call fail or ends the process there (fault.c).
 mod common;
-use common::{command_on, folder, plain_frame, ran, state_of, Folder, Ran, State, ENDINGS, TODAY};
+use common::{command_on, folder, plain_frame, ran, state_of, Folder, Ran, State, DUE, ENDINGS, TODAY};
 use std::collections::BTreeSet;
 use std::fs;
 use std::process::Command;
@@ -11,8 +11,6 @@ use std::sync::OnceLock;
 const KILLS: [&str; 3] = ["before", "after", "torn"];
 /// EIO, ENOSPC, EROFS.
 const ERRORS: [&str; 3] = ["5", "28", "30"];
-/// The day on which the holding of these tests may go.
-const DUE: &str = "2031-11-03";
 
 /// The command in this folder. Sweeps run on the day that the holding is due.
 fn prepared(f: &Folder, words: &str) -> Command {
@@ -227,8 +225,9 @@ fn make_unfinished(words: &str) -> (Lying, State) {
 
 #[test]
 fn every_command_finishes_an_unfinished_change_first() {
-    let commands = ["list a", "verify a", "verify .", "may-purge a 2031-11-03", "sweep . --day 2031-11-03"];
-    for words in commands {
+    let questions = ["list a", "verify a", "verify .", "may-purge a 2031-11-03", "sweep . --day 2031-11-03"];
+    let reasons = ["why a --day 2031-11-03", "why a --pixel 5", "why a --pixel 1,1"];
+    for words in questions.into_iter().chain(reasons) {
         let (f, new) = unfinished();
         let ran = f.run(words);
         let said = "a: a change that had been interrupted is finished";
@@ -309,7 +308,8 @@ fn a_damaged_record_is_an_error_and_nothing_is_deleted() {
     let old = state(&f);
     f.put("a.redo", &record[..record.len() - 1]);
     let changes = ["correct a 1 1", "amend a 1", "withdraw a", "keep a 2040-01-01", "compact a"];
-    for words in ["list a", "verify a", "may-purge a 2040-01-01"].into_iter().chain(changes) {
+    let questions = ["list a", "verify a", "may-purge a 2040-01-01", "why a --day 2040-01-01", "why a --pixel 5"];
+    for words in questions.into_iter().chain(changes) {
         let ran = f.run(words);
         let said = "a.redo: is the record of an unfinished change, and damaged. Nothing was changed or deleted.";
         assert!(ran.status == Some(4) && ran.err.contains(said), "{words}: {ran:?}");
@@ -540,7 +540,9 @@ fn a_read_only_folder_answers_questions_and_takes_no_change() {
         if !lock {
             fs::remove_file(f.join("a.lock")).unwrap();
         }
-        for words in ["list a", "verify a", "may-purge a 2031-11-03", "sweep . --day 2031-11-03"] {
+        let reasons = ["why a --day 2031-11-03", "why a --pixel 5", "why a --pixel 1,1"];
+        let questions = ["list a", "verify a", "may-purge a 2031-11-03", "sweep . --day 2031-11-03"];
+        for words in questions.into_iter().chain(reasons) {
             assert_eq!(read_only(&f, words).status, Some(0), "{words}");
         }
         for words in ["correct a 1 1", "amend a 1", "withdraw a", "keep a 2040-01-01", "open a.sfrm --form 1 -o b"] {

@@ -44,12 +44,17 @@ fn the_purge_question_has_a_status() {
     };
     assert_eq!(asked("2031-11-03"), (Some(1), "no: a has no keep date that stands\n".into()));
     f.done("keep a 2031-11-02");
-    assert_eq!(asked("2031-11-02"), (Some(1), "not yet: a is kept until 2031-11-02\n".into()));
-    assert_eq!(asked("2031-11-03"), (Some(0), "yes: a may be purged\n".into()));
+    assert_eq!(asked("2031-11-02"), (Some(1), "not yet: a is kept until 2031-11-02 by line 1\n".into()));
+    assert_eq!(asked("2031-11-03"), (Some(0), "yes: a may be purged: line 1 kept it until 2031-11-02\n".into()));
+    let reason = r#""decided_by":1,"kept_until":"2031-11-02"}"#;
     let json = f.run("may-purge a 2031-11-02 --json");
-    assert_eq!(json.out, "{\"name\":\"a\",\"may_purge\":false,\"refusal\":27,\"kept_until\":\"2031-11-02\"}\n");
+    assert_eq!(json.out, format!("{{\"name\":\"a\",\"may_purge\":false,\"refusal\":27,{reason}\n"));
     let json = f.run("--json may-purge a 2031-11-03");
-    assert_eq!((json.status, json.out.as_str()), (Some(0), "{\"name\":\"a\",\"may_purge\":true}\n"));
+    assert_eq!((json.status, json.out), (Some(0), format!("{{\"name\":\"a\",\"may_purge\":true,{reason}\n")));
+    f.done("withdraw a");
+    let json = f.run("--json may-purge a 2031-11-03");
+    let none = "{\"name\":\"a\",\"may_purge\":false,\"refusal\":26}\n";
+    assert_eq!((json.status, json.out.as_str()), (Some(1), none));
     assert!(f.refused("may-purge a 1900-02-29", 25).contains("no calendar date"));
 }
 
@@ -58,7 +63,7 @@ fn dates_have_one_form() {
     let f = folder();
     f.hold("1", 0);
     for date in ["11/02/2031", "2031-11-2", "31-11-02", "2031-11-02 ", "+031-11-02", "２031-11-02", "2031/11/02"] {
-        for words in [["keep", "a", date], ["may-purge", "a", date]] {
+        for words in [["keep", "a", date].as_slice(), &["may-purge", "a", date], &["why", "a", "--day", date]] {
             let ran = common::ran(common::command().args(words).current_dir(f.path()).output().unwrap());
             let shows = ran.err.contains("a date is written YYYY-MM-DD, for example 2031-11-02");
             assert!(ran.status == Some(2) && shows, "{date}: {ran:?}");
@@ -250,11 +255,19 @@ fn each_refusal_of_a_question_has_its_sentence() {
     f.without_sums("a");
     let ledger = f.get("a.ledger");
     f.put("a.ledger", [ledger.as_slice(), &[0xc0; 16]].concat());
-    for words in ["list a", "may-purge a 2031-11-03", "verify a"] {
+    let questions = [
+        "list a",
+        "may-purge a 2031-11-03",
+        "verify a",
+        "why a --day 2031-11-03",
+        "why a --pixel 15",
+        "why a --pixel 3,3",
+    ];
+    for words in questions {
         untouched(&f, words, 20, "a.ledger: refusal 20: the ledger is malformed. It was damaged");
     }
     f.put("a.ledger", &ledger[..7]);
-    for words in ["list a", "may-purge a 2031-11-03", "verify a"] {
+    for words in questions {
         untouched(&f, words, 20, "it has 7 bytes, and a ledger is whole lines of 16 bytes");
     }
     let json = f.run("list a --json");
@@ -303,7 +316,7 @@ fn bad_usage_has_its_status() {
 #[test]
 fn every_command_has_help_with_an_example() {
     let f = folder();
-    let commands = "info expand view write open correct amend keep withdraw compact list may-purge verify sweep";
+    let commands = "info expand view write open correct amend keep withdraw compact list may-purge why verify sweep";
     for command in commands.split(' ') {
         let help = f.done(&format!("{command} --help"));
         assert!(help.contains(&format!("  quayrudder {command} ")), "{help}");

@@ -234,8 +234,27 @@ fn listings() {
     let listing = "line 1 keep 2031-11-02\nline 2 correct 17 300 301 withdrawn\nline 3 withdraw\nstanding 1\n";
     feed(5, &[listing.as_bytes().to_vec()], |bytes| {
         let listing = text(bytes);
-        ledger::last_standing(&listing);
-        ledger::keep_line(&listing).is_some()
+        for line in ledger::backwards(&listing) {
+            line.to_string();
+        }
+        ledger::last_standing(&listing).is_some()
+    });
+}
+
+/// Any bytes are asked, and what is named is a line of the ledger.
+#[test]
+fn lines_of_ledgers() {
+    let keep = [[0x5f, 0xbe, 0xc4].as_slice(), &[0; 13]].concat();
+    let withdraw = [[0x80].as_slice(), &[0; 15]].concat();
+    let correct = (17u128 << 81 | 300 << 49 | 301 << 17).to_be_bytes().to_vec();
+    let samples = [[correct.clone(), keep.clone()].concat(), [keep, correct, withdraw].concat()];
+    feed(7, &samples, |bytes| {
+        let (lines, day) = (ledger::lines(bytes), quayrudder::Date { year: 1, month: 1, day: 1 });
+        let answers = [quayrudder::why_day(bytes, lines, day), quayrudder::why_pixel(bytes, lines, 17)];
+        let named = answers.map(|answer| answer.line == 0 || ledger::line(bytes, answer.line).is_some());
+        let bare = [0, 1, lines, lines + 1, u64::MAX].map(|number| ledger::line(bytes, number));
+        assert!(named == [true; 2] && bare[0].is_none() && bare[3].is_none() && bare[4].is_none(), "{bytes:?}");
+        answers.iter().any(|answer| answer.line != 0)
     });
 }
 

@@ -67,7 +67,8 @@ fn an_old_record_put_back_changes_nothing() {
         "a.redo: is the record of a change to another state than that of a.ledger: the record is older, it makes \
                 line 2 and the ledger has 4. Nothing was changed or deleted.";
     let changes = ["keep a 2041-01-01", "withdraw a", "correct a 4 4", "amend a 4", "compact a"];
-    for words in ["list a", "verify a", "may-purge a 2041-01-01"].into_iter().chain(changes) {
+    let questions = ["list a", "verify a", "may-purge a 2041-01-01", "why a --day 2041-01-01", "why a --pixel 3"];
+    for words in questions.into_iter().chain(changes) {
         unchanged(&f, words, 4, said);
         assert_eq!(f.get("a.redo"), record);
     }
@@ -150,9 +151,13 @@ fn a_lock_held_for_long_is_said_and_does_not_stop_the_sweep() {
     let swept = f.run_on("2031-11-03", words);
     let by = format!("in use by process {}", std::process::id());
     assert!(swept.status == Some(3) && swept.out.contains(&format!("failed        ./a  {by}\n")), "{swept:?}");
-    assert!(swept.out.contains("deleted       ./b\n") && start.elapsed() < Duration::from_secs(8));
+    assert!(
+        swept.out.contains("deleted       ./b  line 1 kept it until 2031-11-02\n")
+            && start.elapsed() < Duration::from_secs(8)
+    );
     assert!(f.has("a.held") && !f.has("b.held"));
-    for words in ["correct a 1 1 --wait 0", "list a --wait 0", "verify . --wait 0"] {
+    let reasons = ["why a --day 2031-11-03 --wait 0", "why a --pixel 1 --wait 0", "why a --pixel 0,1 --wait 0"];
+    for words in ["correct a 1 1 --wait 0", "list a --wait 0", "verify . --wait 0"].into_iter().chain(reasons) {
         let ran = f.run(words);
         assert!(ran.status == Some(3) && ran.err.contains(&format!("a.lock: {by}")), "{words}: {ran:?}");
     }
@@ -328,7 +333,9 @@ fn one_flipped_bit_is_found_and_said_of_which_file() {
         "a.held: differs from its sum in a.sha256, and so does a.ledger: these files are not of one",
     );
     f.put("a.held", &held);
-    for words in ["verify a", "list a", "may-purge a 2031-11-03", "sweep . --day 2031-11-03"] {
+    let reasons = ["why a --day 2031-11-03", "why a --pixel 1", "why a --pixel 0,1"];
+    let others = ["verify a", "list a", "may-purge a 2031-11-03", "sweep . --day 2031-11-03"];
+    for words in reasons.into_iter().chain(others) {
         let ran = f.run(words);
         assert!(ran.status == Some(4) && (ran.err + &ran.out).contains("a.ledger: differs from its sum"), "{words}");
     }

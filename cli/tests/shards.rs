@@ -1,6 +1,6 @@
 //! A tier divided among machines: the parts are the whole, and their totals add up to those of one run.
 mod common;
-use common::{command_on, folder, ran, Folder, Ran};
+use common::{command_on, folder, ran, Folder, Ran, DUE};
 use serde_json::Value;
 use std::collections::BTreeSet;
 use std::fs;
@@ -9,7 +9,6 @@ use std::process::Stdio;
 
 /// A ledger line: kept until 2031-11-02.
 const KEPT: [u8; 16] = [0x5f, 0xbe, 0xc4, 0, 0, 0, 0, 0, 0, 0, 0, 0, 0, 0, 0, 0];
-const DUE: &str = "2031-11-03";
 
 /// Below `folder`: due, without a date, malformed, half of them damaged; strangers, and what killed processes left.
 fn tier(f: &Folder, folder: &str) {

@@ -1,6 +1,6 @@
 //! The purge job.
 mod common;
-use common::{command_on, folder, ran, Folder};
+use common::{command_on, folder, ran, Folder, DUE};
 use std::ffi::OsStr;
 use std::fs;
 use std::os::unix::ffi::OsStrExt;
@@ -9,9 +9,6 @@ use std::path::PathBuf;
 /// A ledger line: kept until 2031-11-02.
 const KEPT: [u8; 16] = [0x5f, 0xbe, 0xc4, 0, 0, 0, 0, 0, 0, 0, 0, 0, 0, 0, 0, 0];
 const WITHDRAWAL: [u8; 16] = [0x80, 0, 0, 0, 0, 0, 0, 0, 0, 0, 0, 0, 0, 0, 0, 0];
-
-/// The day on which a holding kept until 2031-11-02 may go.
-const DUE: &str = "2031-11-03";
 
 fn holding(f: &Folder, name: &str, ledger: &[u8]) {
     f.put(&format!("{name}.held"), "frame");
@@ -35,10 +32,10 @@ fn archive() -> Folder {
 }
 
 const ANSWERS: &str = "\
-yes           ./b
+yes           ./b  line 1 kept it until 2031-11-02
 refused       ./broken  refusal 20: the ledger is malformed
-yes           ./deep/er/a
-not yet       ./deep/later  kept until 2031-11-03
+yes           ./deep/er/a  line 1 kept it until 2031-11-02
+not yet       ./deep/later  kept until 2031-11-03 by line 2
 no keep line  ./deep/none
 no keep line  ./empty
 refused       ./malformed  refusal 20: the ledger is malformed
@@ -53,7 +50,10 @@ fn a_sweep_asks_every_ledger_and_deletes_nothing() {
     assert!(f.has("b.held") && f.has("b.ledger") && !f.has("quayrudder-purge.log"));
     let json = f.run("sweep . --day 2031-11-03 --json").out;
     let lines: Vec<&str> = json.lines().collect();
-    assert_eq!(lines[3], r#"{"name":"./deep/later","answer":"not yet","kept_until":"2031-11-03"}"#);
+    assert_eq!(lines[0], r#"{"name":"./b","answer":"yes","decided_by":1,"kept_until":"2031-11-02"}"#);
+    assert_eq!(lines[1], r#"{"name":"./broken","answer":"refused","refusal":20}"#);
+    assert_eq!(lines[3], r#"{"name":"./deep/later","answer":"not yet","decided_by":2,"kept_until":"2031-11-03"}"#);
+    assert_eq!(lines[4], r#"{"name":"./deep/none","answer":"no keep line"}"#);
     assert!(lines[7].starts_with(r#"{"totals":{"ledgers":7,"yes":2,"deleted":0,"moved":0,"not_yet":1"#), "{json}");
 }
 
@@ -130,7 +130,10 @@ fn a_deletion_that_fails_half_way_is_logged_as_what_it_is() {
         f.run("keep a 2040-01-01").err.contains("`quayrudder sweep DIR --delete` finishes it") && f.has("a.ledger")
     );
     let ran = f.run_on(DUE, "sweep . --delete");
-    assert!(ran.status == Some(0) && ran.out.starts_with("deleted       ./a\n"), "{ran:?}");
+    assert!(
+        ran.status == Some(0) && ran.out.starts_with("deleted       ./a  line 1 kept it until 2031-11-02\n"),
+        "{ran:?}"
+    );
     assert_eq!(f.names().into_iter().collect::<Vec<String>>(), ["quayrudder-purge.log"]);
 }
 
@@ -174,7 +177,10 @@ fn the_ledger_is_asked_again_with_its_lock_held() {
     sweep.env("FAULT_RUN", format!("{} keep a 2040-01-01 > said", env!("CARGO_BIN_EXE_quayrudder")));
     let ran = ran(sweep.output().unwrap());
     assert!(String::from_utf8(f.get("said")).unwrap().contains("kept until 2040-01-01"));
-    assert!(ran.status == Some(0) && ran.out.starts_with("not yet       ./a  kept until 2040-01-01"), "{ran:?}");
+    assert!(
+        ran.status == Some(0) && ran.out.starts_with("not yet       ./a  kept until 2040-01-01 by line 2\n"),
+        "{ran:?}"
+    );
     assert!(f.has("a.held") && f.has("a.ledger") && log(&f).is_empty());
 }
 
@@ -186,7 +192,11 @@ fn a_holding_moved_into_a_bin_is_whole_there_and_is_asked_again() {
     f.done("keep deep/c 2031-11-01");
     let old = ["deep/c.held", "deep/c.ledger", "deep/c.sha256"].map(|name| f.get(name));
     let ran = f.run_on(DUE, "sweep . --into bin");
-    assert!(ran.out.contains("moved         ./deep/c  to bin/deep/c\n") && ran.out.contains("3 moved"), "{ran:?}");
+    assert!(
+        ran.out.contains("moved         ./deep/c  to bin/deep/c  line 1 kept it until 2031-11-01\n")
+            && ran.out.contains("3 moved"),
+        "{ran:?}"
+    );
     assert_eq!(["bin/deep/c.held", "bin/deep/c.ledger", "bin/deep/c.sha256"].map(|name| f.get(name)), old);
     for gone in ["b.held", "b.ledger", "b.lock", "deep/c.held", "deep/c.ledger", "deep/c.sha256", "deep/c.lock"] {
         assert!(!f.has(gone), "{gone}");
@@ -211,6 +221,20 @@ fn a_holding_moved_into_a_bin_is_whole_there_and_is_asked_again() {
 fn killed_after(f: &Folder, words: &str, call: &str) {
     let mut sweep = command_on(DUE);
     sweep.args(words.split(' ')).current_dir(f.path()).env("FAULT", "after").env("FAULT_AT", call).output().unwrap();
+}
+
+#[test]
+fn a_removal_that_is_finished_later_names_its_line_while_the_ledger_is_there() {
+    let reason = "deleted       ./a  line 2 kept it until 2031-11-02";
+    for (call, said) in [("unlink a.held", reason), ("unlink a.ledger", "deleted       ./a")] {
+        let f = folder();
+        holding(&f, "a", &[KEPT, KEPT].concat());
+        killed_after(&f, "sweep . --delete", call);
+        assert!(f.has("a.redo") && !f.has("a.held"), "{call}");
+        let ran = f.run_on(DUE, "sweep . --delete");
+        assert_eq!((ran.status, ran.out.lines().next()), (Some(0), Some(said)), "{call}");
+        assert!(log(&f).contains("./a: deleting\n  decided by line 2: kept until 2031-11-02\n"), "{}", log(&f));
+    }
 }
 
 #[test]
@@ -239,7 +263,10 @@ fn a_ledger_does_not_follow_a_held_file_that_is_gone() {
     let mut elsewhere = command_on(DUE);
     let ran = common::ran(elsewhere.args(["sweep", "--delete"]).arg(f.path()).current_dir("/").output().unwrap());
     let to = fs::canonicalize(f.join("bin")).unwrap().join("a");
-    assert!(ran.status == Some(0) && ran.out.contains(&format!("  to {}\n", to.display())), "{ran:?}");
+    assert!(
+        ran.status == Some(0) && ran.out.contains(&format!("  to {}  line 1 kept it until", to.display())),
+        "{ran:?}"
+    );
     assert!(f.has("bin/a.ledger") && !f.has("a.ledger") && !f.has("a.redo"));
 }
 
@@ -272,6 +299,9 @@ fn a_question_makes_no_file() {
     for words in ["list b", "may-purge b 2031-11-03", "verify b", "verify .", "list accounts", "verify accounts"] {
         f.run(words);
     }
+    for words in ["why b --day 2031-11-03", "why b --pixel 3", "why b --pixel 0,3", "why accounts --pixel 3"] {
+        f.run(words);
+    }
     assert_eq!(count(), before);
     f.run_on(DUE, "sweep . --delete");
     assert!(f.get("accounts.ledger") == b"Assets:Bank 100 EUR" && !f.has("accounts.lock"));
@@ -284,12 +314,14 @@ fn a_ledger_alone_is_no_holding_and_stays() {
     let ran = f.run_on(DUE, "sweep . --day 2031-11-03 --delete");
     assert!(ran.status == Some(0) && ran.out.starts_with("not a holding ./a\n") && f.has("a.ledger"), "{ran:?}");
     let changes = ["keep a 2040-01-01", "withdraw a", "correct a 1 1", "amend a 1", "compact a"];
-    for words in ["may-purge a 2031-11-03", "verify a"].into_iter().chain(changes) {
+    let questions = ["may-purge a 2031-11-03", "why a --day 2031-11-03", "why a --pixel 0,3", "verify a"];
+    for words in questions.into_iter().chain(changes) {
         let ran = f.run(words);
         assert!(ran.status == Some(4) && ran.err.contains("a.held: is missing"), "{words}: {ran:?}");
     }
     assert!(f.get("a.ledger") == KEPT && !f.has("a.lock"));
     assert_eq!(f.done("list a"), "line 1 keep 2031-11-02\nstanding 1\n");
+    assert_eq!(f.done("why a --pixel 3"), "a: pixel 3 is as opened: no correction of it stands\n");
 }
 
 #[test]
@@ -305,7 +337,8 @@ fn names_that_are_no_text_are_told_apart() {
     let json = f.run("sweep . --day 2031-11-03 --json").out;
     let found: std::collections::HashSet<String> = json.lines().take(5).map(str::to_string).collect();
     for name in said {
-        let line = format!(r#"{{"name":{},"answer":"yes"}}"#, serde_json::json!(format!("./{name}")));
+        let reason = r#""decided_by":1,"kept_until":"2031-11-02""#;
+        let line = format!(r#"{{"name":{},"answer":"yes",{reason}}}"#, serde_json::json!(format!("./{name}")));
         assert!(found.contains(&line), "{line} in {json}");
     }
     assert_eq!(f.run_on(DUE, "sweep . --delete").status, Some(0));

@@ -28,14 +28,16 @@ Line(number=1, kind='correct', withdrawn=False, pixel=38650, old=4000000, new=90
 datetime.date(2031, 11, 2)
 >>> holding.may_purge("2031-11-02"), holding.may_purge("2031-11-03")
 (False, True)
+>>> holding.why_day("2031-11-02").line.number, holding.why_pixel((100, 250)).number
+(2, 1)
 >>> int(holding.read().pixels[100, 250])
 90
 
 `quayrudder.fabio_plugin` makes `fabio.open` read Bruker and mar files in the same way. The numbers of refusals, and more of the command, are in
 REFUSALS.md and MANUAL.md, which are installed beside (share/doc/quayrudder).
 """
-from .holding import Holding, Line
+from .holding import Holding, Line, PurgeAnswer
 from .images import Image, read, read_dtrek, read_mar, write
 from .refusals import Error, Refusal
 
-__all__ = ["Error", "Holding", "Image", "Line", "Refusal", "read", "read_dtrek", "read_mar", "write"]
+__all__ = ["Error", "Holding", "Image", "Line", "PurgeAnswer", "Refusal", "read", "read_dtrek", "read_mar", "write"]

@@ -38,6 +38,20 @@ class Line(NamedTuple):
     date: Optional[datetime.date] = None
 
 
+class PurgeAnswer(NamedTuple):
+    """Whether a frame may be purged on a day, and why. It is true exactly where the answer is yes, so that an `if` may ask it.
+
+    may_purge: the answer
+    line: the keep line that decides, the last that stands, or None where none does
+    """
+
+    may_purge: bool
+    line: Optional[Line] = None
+
+    def __bool__(self) -> bool:
+        return self.may_purge
+
+
 class Holding:
     """A held frame and its ledger: the files NAME.held, NAME.ledger and those beside them.
 
@@ -87,8 +101,7 @@ class Holding:
 
     def correct(self, pixel: int | tuple[int, int], count: int) -> Line:
         """Gives a pixel, by its number or its row and column, another count. The answer is the ledger's new line."""
-        place = f"{pixel[0]},{pixel[1]}" if isinstance(pixel, tuple) else str(pixel)
-        return _line(self._run("correct", place, str(count))["appended"])
+        return _line(self._run("correct", _place(pixel), str(count))["appended"])
 
     def amend(self, count: int) -> Line:
         """Takes back the last line that stands, a correction, and gives its pixel this count instead. The answer is the new correction."""
@@ -120,10 +133,45 @@ class Holding:
             raise Refusal(answer["refusal"], file=self.name)
         return answer["may_purge"] is True
 
+    def why_day(self, day: Day) -> PurgeAnswer:
+        """May the frame be purged on this day, and which keep line decides? Numbers are those of `list`.
+
+        Raises Refusal for a ledger that is malformed (20) and for a day that is none (25).
+
+        >>> holding = Holding.open("example.sfrm", "lyso4", form="1+2")
+        >>> holding.why_day("2031-11-03")
+        PurgeAnswer(may_purge=False, line=None)
+        >>> holding.keep("2040-01-01").number, holding.keep("2031-11-02", shorten=True).number
+        (1, 2)
+        >>> answer = holding.why_day("2031-11-02")
+        >>> answer.may_purge, answer.line.number, answer.line.date
+        (False, 2, datetime.date(2031, 11, 2))
+        >>> "may go" if holding.why_day("2031-11-03") else "stays"
+        'may go'
+        """
+        answer = self._run("why", options=[f"--day={day}"])
+        return PurgeAnswer(answer["may_purge"] is True, _deciding(answer))
+
+    def why_pixel(self, pixel: int | tuple[int, int]) -> Line | None:
+        """The correction that stands and set this pixel last, or None where the pixel is as opened.
+
+        Only the ledger is asked for a number, so any is a fair question; a row and column are looked up in the held frame, and
+        Refusal 24 is raised where it has no such pixel. A ledger that is malformed raises Refusal 20.
+
+        >>> holding = Holding.open("example.sfrm", "lyso5", form="1+2")
+        >>> holding.correct((100, 250), 90).number, holding.correct(7, 12).number
+        (1, 2)
+        >>> holding.why_pixel((100, 250))
+        Line(number=1, kind='correct', withdrawn=False, pixel=38650, old=4000000, new=90, date=None)
+        >>> holding.why_pixel(8) is None
+        True
+        """
+        return _deciding(self._run("why", options=[f"--pixel={_place(pixel)}"]))
+
     def kept_until(self) -> datetime.date | None:
         """The keep date that counts, the last one that stands, or None."""
-        dates = [line.date for line in self.list() if line.kind == "keep" and not line.withdrawn]
-        return dates[-1] if dates else None
+        line = self.why_day(datetime.date.min).line
+        return line.date if line else None
 
     def verify(self) -> None:
         """Checks the files against their sums and the held frame against its ledger, to its last byte. Raises what is wrong."""
@@ -140,6 +188,15 @@ class Holding:
     def _run(self, command: str, *words: str, options: Sequence[str] = ()) -> Any:
         wait = [] if self.wait is None else ["--wait", str(self.wait)]
         return _run(command, *wait, *options, "--", self.name, *words)
+
+
+def _place(pixel: int | tuple[int, int]) -> str:
+    return f"{pixel[0]},{pixel[1]}" if isinstance(pixel, tuple) else str(pixel)
+
+
+def _deciding(answer: dict[str, Any]) -> Line | None:
+    """The line that decides, where one does."""
+    return _line(answer["deciding_line"]) if "deciding_line" in answer else None
 
 
 def _line(value: dict[str, Any]) -> Line:

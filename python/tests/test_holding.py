@@ -61,6 +61,37 @@ class Holdings(unittest.TestCase):
         self.assertIs(self.holding.may_purge(datetime.date(2031, 11, 2)), False)
         self.assertIs(self.holding.may_purge(datetime.date(2031, 11, 3)), True)
 
+    def test_the_last_keep_line_that_stands_decides(self):
+        self.assertEqual(self.holding.why_day("2031-11-03"), quayrudder.PurgeAnswer(False, None))
+        lines = [self.holding.keep("2040-01-01"), self.holding.keep("2031-11-02", shorten=True)]
+        self.assertEqual(self.holding.why_day("2031-11-02"), (False, lines[1]))
+        self.assertEqual(self.holding.why_day(datetime.date(2031, 11, 3)), (True, lines[1]))
+        self.holding.withdraw()
+        self.assertEqual(self.holding.why_day("2031-11-03"), (False, lines[0]))
+        self.assertEqual(self.holding.kept_until(), datetime.date(2040, 1, 1))
+        self.assertEqual(refused(self.holding.why_day, "2031-02-29").number, 25)
+        self.assertEqual(self.error(self.holding.why_day, "tomorrow"), "usage")
+
+    def test_an_answer_is_true_where_it_is_yes(self):
+        self.assertFalse(self.holding.why_day("2031-11-03"))
+        self.holding.keep("2031-11-02")
+        self.assertFalse(self.holding.why_day("2031-11-02"))
+        self.assertTrue(self.holding.why_day("2031-11-03"))
+        self.assertIs(self.holding.why_day("2031-11-03").may_purge, True)
+
+    def test_the_last_correction_of_a_pixel_is_named(self):
+        first, other = self.holding.correct((100, 250), 90), self.holding.correct(7, 12)
+        second = self.holding.correct(38650, 91)
+        self.assertEqual([self.holding.why_pixel(pixel) for pixel in (38650, 7, 8)], [second, other, None])
+        self.holding.withdraw()
+        self.assertEqual(self.holding.why_pixel((100, 250)), first)
+        self.assertIsNone(self.holding.why_pixel(2 ** 64 - 1))
+        self.assertEqual(refused(self.holding.why_pixel, (256, 0)).number, 24)
+        self.assertEqual(self.error(self.holding.why_pixel, -1), "usage")
+        os.remove(self.holding.name + ".held")
+        self.assertEqual(self.holding.why_pixel(7), other)
+        self.assertEqual(self.error(self.holding.why_pixel, (0, 7)), "damaged")
+
     def test_compaction_leaves_what_stands(self):
         self.holding.correct(1, 5)
         self.holding.keep("2031-11-02")
@@ -76,8 +107,9 @@ class Holdings(unittest.TestCase):
         os.remove(self.holding.name + ".sha256")
         with open(self.holding.name + ".ledger", "wb") as ledger:
             ledger.write(b"\xff" * 16)
-        refusal = refused(self.holding.may_purge, "2031-11-03")
-        self.assertEqual((refusal.number, refusal.file), (20, self.holding.name + ".ledger"))
+        for question, asked in ((self.holding.may_purge, "2031-11-03"), (self.holding.why_day, "2031-11-03"), (self.holding.why_pixel, 7)):
+            refusal = refused(question, asked)
+            self.assertEqual((refusal.number, refusal.file), (20, self.holding.name + ".ledger"))
         self.assertEqual(refused(self.holding.list).number, 20)
 
     def test_what_the_command_declines(self):

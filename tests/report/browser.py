@@ -202,7 +202,7 @@ class Page(Browser):
         self.assertEqual([row[:2] for row in cells], [["2", "38,650"], ["3", "8,094"]])
         said = lines.find_element(By.TAG_NAME, "tbody").text.split("\n")
         self.assertEqual(said[3:], ["4 pixel 77,140 corrected from 47 to 31 withdrawn", "5 withdrawal"])
-        self.assertIn("not yet: archive/lysozyme/scan_0002 is kept until 2032-02-15. Line 1 of the ledger decides.", self.one("#one-body").text)
+        self.assertIn("not yet: archive/lysozyme/scan_0002 is kept until 2032-02-15 by line 1.", self.one("#one-body").text)
         self.driver.back()
         self.until(lambda: self.one("#all").is_displayed())
 

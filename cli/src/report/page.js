@@ -291,8 +291,7 @@
   }
 
   function purge(row) {
-    const decided = row.decided_by === null ? "" : ` Line ${count(row.decided_by)} of the ledger decides.`;
-    const said = row.purge === null ? "Not known: what is wrong with the holding comes first, and a sweep leaves it alone while that is so." : `For ${summary.day}: ${row.purge}.${decided} ${row.advice || ""}`;
+    const said = row.purge === null ? "Not known: what is wrong with the holding comes first, and a sweep leaves it alone while that is so." : `For ${summary.day}: ${row.purge}. ${row.advice || ""}`;
     return [make("h3", null, "May it be purged?"), make("p", null, said)];
   }
 

@@ -5,8 +5,9 @@ use crate::failure::{shown, Failure, Outcome};
 use crate::files;
 use crate::frames::{self, form_text};
 use crate::holding::{Contents, Holding};
-use crate::holdings::{line_value, purge_answer};
+use crate::holdings::line_value;
 use crate::ledger::{self, Entry, Line};
+use crate::purge::{self, Purge};
 use crate::refusals::sentence;
 use crate::verify::{checked, Sealed};
 use quayrudder::{Date, HeaderAnswer};
@@ -36,13 +37,11 @@ pub struct Row {
 
 pub struct Account {
     pub corrections: u64,
-    /// The keep line that decides, and its date.
-    pub keep: Option<(u64, String)>,
     lines: Vec<Value>,
     left_out: u64,
-    purge: String,
-    /// The answer of `may-purge` as JSON.
-    answer: Value,
+    pub purge: Purge,
+    /// The answer of `may-purge` in its sentence.
+    said: String,
 }
 
 /// Looks at one holding. Only the clock, the disk or another process can make this fail, and then the row says so.
@@ -81,7 +80,7 @@ fn picture(holding: &Holding, found: &Contents) -> Option<Small> {
 
 impl Account {
     fn new(holding: &Holding, bytes: &[u8], day: Date) -> Outcome<Account> {
-        let (purge, answer) = purge_answer(holding, bytes, day)?;
+        let purge = purge::answered(holding, bytes, day)?;
         let listing = ledger::listing(bytes);
         let stands = |line: &Line| !line.withdrawn && matches!(line.entry, Entry::Correct { .. });
         let corrections = ledger::backwards(&listing).filter(stands).count() as u64;
@@ -89,21 +88,13 @@ impl Account {
         let mut lines: Vec<Value> = last.map(|line| line_value(&line)).collect();
         lines.reverse();
         let left_out = ledger::lines(bytes) - lines.len() as u64;
-        Ok(Account { corrections, keep: ledger::keep_line(&listing), lines, left_out, purge, answer })
-    }
-
-    /// May the holding be purged?
-    pub fn word(&self) -> &'static str {
-        match self.answer["refusal"].as_u64() {
-            None => "yes",
-            Some(27) => "not yet",
-            Some(_) => "no keep line",
-        }
+        let said = purge.text(&holding.name);
+        Ok(Account { corrections, lines, left_out, purge, said })
     }
 
     /// What to do about a no.
     fn advice(&self) -> Option<&'static str> {
-        self.answer["refusal"].as_u64().map(|number| sentence(number as u32).advice)
+        Some(self.purge.refusal()).filter(|number| *number != 0).map(|number| sentence(number).advice)
     }
 }
 
@@ -128,14 +119,14 @@ impl Row {
 
     pub fn value(&self) -> Value {
         let (header, account) = (self.header.as_ref(), self.ledger.as_ref());
-        let keep = account.and_then(|account| account.keep.as_ref());
+        let keep = account.and_then(|account| account.purge.keep());
         json!({
             "name": self.name, "state": self.state(), "trouble": self.failure.as_ref().map(trouble),
             "bytes": self.bytes, "sums": self.sums,
             "rows": header.map(|header| header.rows), "columns": header.map(|header| header.columns),
             "form": header.map(|header| form_text(header.width, header.entry)),
-            "kept_until": keep.map(|(_, date)| date), "decided_by": keep.map(|(line, _)| line),
-            "may_purge": account.map(Account::word), "purge": account.map(|account| &account.purge),
+            "kept_until": keep.map(|keep| &keep.until), "decided_by": keep.map(|keep| keep.line),
+            "may_purge": account.map(|account| account.purge.word()), "purge": account.map(|account| &account.said),
             "advice": account.and_then(Account::advice), "corrections": account.map(|account| account.corrections),
             "lines": account.map(|account| &account.lines), "left_out": account.map(|account| account.left_out),
             "picture": self.picture.as_ref().map(Small::value),

@@ -3,6 +3,7 @@ use super::row::{Row, AGREE};
 use crate::batch::Tally;
 use crate::clock::{self, date_text};
 use crate::failure::shown;
+use crate::purge::Keep;
 use quayrudder::Date;
 use serde_json::{json, Value};
 use std::collections::BTreeMap;
@@ -51,9 +52,9 @@ impl Summary {
         self.corrected += u64::from(row.corrections() > 0);
         self.pictures += u64::from(row.picture.is_some());
         *self.sums.entry(row.sums).or_default() += 1;
-        *self.may_purge.entry(account.map_or("not known", |account| account.word())).or_default() += 1;
-        if let Some((_, date)) = account.and_then(|account| account.keep.as_ref()) {
-            let (holdings, bytes) = self.months.entry(date[..date.len().min(7)].into()).or_default();
+        *self.may_purge.entry(account.map_or("not known", |account| account.purge.word())).or_default() += 1;
+        if let Some(Keep { until, .. }) = account.and_then(|account| account.purge.keep()) {
+            let (holdings, bytes) = self.months.entry(until[..until.len().min(7)].into()).or_default();
             (*holdings, *bytes) = (*holdings + 1, *bytes + row.bytes);
         }
     }

@@ -15,6 +15,9 @@ use tempfile::TempDir;
 /// The day on which the command runs where none is named.
 pub const TODAY: &str = "2026-11-16";
 
+/// The day on which a holding kept until 2031-11-02 may go.
+pub const DUE: &str = "2031-11-03";
+
 /// The refusals of what is asked for. The others say that a frame, a ledger or a holding is not what it must be.
 const ASKED_FOR: [u32; 12] = [10, 16, 17, 18, 21, 22, 24, 25, 26, 27, 31, 37];
 
