@@ -9,7 +9,7 @@ use native.Mathlib.Omega.{arith}
 use lib.ListN.{length, take, drop, length-take, length-drop, length-append}
 use lib.Seq.{length-take-le, take-all, take-add, take-take, drop-drop, take-at, drop-at}
 use lib.Dec.{eqb, ltb}
-use borrow.Author.Tests.{eq-eqb, ne-eqb}
+use borrow.Author.Tests.{eq-eqb, ne-eqb, lt-ltb}
 use Rattle.lists.specs.Choose.{if_then_else_}
 use Rattle.lists.specs.Bytes.{big, bigBytes}
 use Rattle.lists.proofs.BigEndian.{big-append, big-from, bytes-join, length-bigBytes}
@@ -64,17 +64,12 @@ fields-words hi lo l =
 pub old-fits : (hi lo : ℕ) → lo < 2 ^ 64 → hi % 2 ^ 17 * 2 ^ 15 + lo / 2 ^ 49 < 2 ^ 32
 old-fits hi lo l = omega arith
 
--- sixteen bytes as two words
-pub big-words : (t : List ℕ) → length t ≡ 16 → big t ≡ big (take 8 t) * 2 ^ 64 + big (take 8 (drop 8 t))
-big-words t h =
-    let e : length (take 8 (drop 8 t)) ≡ 8 = length-take-le 8 (drop 8 t) (rw length-drop (omega arith)) in
-    let s : t ≡ take 8 t ++ take 8 (drop 8 t) = sym (take-all 16 t (omega arith)) ∙ take-add 8 8 t in
-    ap big s ∙ big-append 0 (take 8 t) (take 8 (drop 8 t)) ∙ big-from (big (take 8 t)) (take 8 (drop 8 t)) ∙ rw e
-
-second : (s : List ℕ) → 16 ≤ length s → take 8 (drop 8 (take 16 s)) ≡ take 8 (drop 8 s)
-second s h =
-    let e : length (take 8 s) ≡ 8 = length-take-le 8 s (omega arith) in
-    rw (take-add 8 8 s, drop-at (take 8 s) (take 8 (drop 8 s)) 8 e, take-take 8 8 (drop 8 s) (omega arith))
+-- a number in its two halves
+pub big-halves : (w : ℕ) (t : List ℕ) (at : ℕ) → at + (w + w) ≤ length t → big (take (w + w) (drop at t)) ≡ big (take w (drop at t)) * 256 ^ w + big (take w (drop (at + w) t))
+big-halves w t at h =
+    let e : length (take w (drop (at + w) t)) ≡ w = length-take-le w (drop (at + w) t) (rw length-drop (omega arith)) in
+    rw (take-add w w (drop at t), drop-drop w at t)
+    (big-append 0 (take w (drop at t)) (take w (drop (at + w) t)) ∙ big-from (big (take w (drop at t))) (take w (drop (at + w) t)) ∙ rw e)
 
 module _ (t : List ℕ) (index : ℕ) where
   pub line-whole : index < length t / 16
@@ -82,9 +77,7 @@ module _ (t : List ℕ) (index : ℕ) where
   unfolding lineOf
   line-whole h =
       let l : length (bytesAt t index) ≡ 16 = length-take-le 16 (drop (index * 16) t) (rw length-drop (omega arith)) in
-      let a : take 8 (bytesAt t index) ≡ take 8 (drop (index * 16) t) = take-take 8 16 (drop (index * 16) t) (omega arith) in
-      let b : take 8 (drop 8 (bytesAt t index)) ≡ take 8 (drop (index * 16 + 8) t) = second (drop (index * 16) t) (rw length-drop (omega arith)) ∙ ap (take 8) (drop-drop 8 (index * 16) t) in
-      rw (eq-eqb _ 16 l, big-words (bytesAt t index) l, a, b)
+      rw (eq-eqb _ 16 l, big-halves 8 t (index * 16) (omega arith))
 
   pub line-short : length t / 16 ≤ index → lineOf (bytesAt t index) ≡ Malformed
   unfolding lineOf
@@ -162,3 +155,29 @@ module _ (n : ℕ) (l : Line) (e : l ≡ fieldsOf n) (k : ltb (n / 2 ^ 126) 3 �
 
   pub line-wrong : rightFor (l .kind) l ≡ false → Malformed ≡ lineFrom n
   line-wrong h = sym (chosen false (rw e at h))
+
+-- two words that are a correction, and those that are a withdrawal: nothing else is in their upper bits
+module _ (hi lo : ℕ) (low : lo < 2 ^ 64) (l : Line) (e : l ≡ fieldsOf (hi * 2 ^ 64 + lo)) where
+  words-right : lo % 2 ^ 17 ≡ 0 → hi / 2 ^ 62 < 3 → rightFor (wordsLine hi lo .kind) (wordsLine hi lo) ≡ true → WellFormed l ≡ lineFrom (hi * 2 ^ 64 + lo)
+  words-right z k r =
+      line-right (hi * 2 ^ 64 + lo) l e (rw (kind-bits hi lo low) (lt-ltb _ _ k)) (rw (spare hi lo) (eq-eqb _ 0 z))
+      (rw (e, ← fields-words hi lo low) r)
+
+  pub correction-words : hi < 2 ^ 41 → lo % 2 ^ 17 ≡ 0 → WellFormed l ≡ lineFrom (hi * 2 ^ 64 + lo)
+  unfolding rightFor kindFrom
+  correction-words h z =
+      let k : hi / 2 ^ 62 ≡ 0 = omega arith in
+      let y : hi / 2 ^ 50 % 2 ^ 12 ≡ 0 = omega arith in
+      let m : hi / 2 ^ 46 % 2 ^ 4 ≡ 0 = omega arith in
+      let d : hi / 2 ^ 41 % 2 ^ 5 ≡ 0 = omega arith in
+      words-right z (omega arith) (rw (k, y, m, d))
+
+  pub withdrawal-words : hi ≡ 2 ^ 63 → lo ≡ 0 → WellFormed l ≡ lineFrom (hi * 2 ^ 64 + lo)
+  unfolding rightFor kindFrom
+  withdrawal-words h z = words-right (rw z) (rw h (omega arith)) (rw (h, z))
+
+pub spare-words : (hi lo : ℕ) → hi < 2 ^ 41 → (lo % 2 ^ 17 ≡ 0 → ⊥) → lo < 2 ^ 64 → Malformed ≡ lineFrom (hi * 2 ^ 64 + lo)
+unfolding lineFrom
+spare-words hi lo h z low =
+    let k : hi / 2 ^ 62 ≡ 0 = omega arith in
+    rw (kind-bits hi lo low, k, spare hi lo, ne-eqb _ 0 z)

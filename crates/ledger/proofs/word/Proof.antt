@@ -1,74 +1,29 @@
-use mathlib.Core.Path.{_≡_, sym, ap, _∙_}
-use Prim.Native.Nat.{ℕ, _+_, _*_, _-_, _^_, _≤_, _<_}
+use Rattle.ledger.proofs.LineLaws.{big-halves}
 use native.Mathlib.Omega.{arith}
-use native.Mathlib.Nat.{add-zero}
-use lib.ListN.{take, drop}
-use Rattle.lists.specs.Bytes.{bigFrom, big}
-use lib.Pow.{pow-mono}
-use Rattle.lists.proofs.BigEndian.{big-grows, big-more}
+use mathlib.Core.Path.{sym}
+use borrow.Author.Needs.{needs}
 use Rattle.ledger.proofs.word.Statement.{statement}
 use Rattle.ledger.proofs.word.Tie as tie
 
-abbrev Inv-loop : tie.InvT-loop
-Inv-loop t at v₀ i₀ v i = (i ≤ 8) × (v < 2 ^ (8 * i)) × (bigFrom v (take (8 - i) (drop (at + i) t)) ≡ big (take 8 (drop at t)))
+half-word-requires : tie.Need-half-word-requires
+half-word-requires c κs = search needs
 
-low : (i : ℕ) → i < 8 → 2 ^ (8 * i) ≤ 2 ^ 56
-low i h = pow-mono {i = 8 * i} {j = 56} (omega arith)
+mul-result : tie.Need-mul-result
+mul-result c = omega (arith, c .half-word .ensures .1)
 
-abbrev μ-loop : tie.MeasureT-loop
-μ-loop t at v₀ i₀ v i = 8 - i
+add-half-word : tie.Need-add-half-word
+add-half-word c = search needs
 
-loop-holds : tie.Need-loop-holds Inv-loop μ-loop
-loop-holds c = (omega arith, omega arith, ap (λ (n : ℕ). big (take 8 (drop n (c .args .t .now)))) (add-zero (c .args .at)))
+half-word-requires-2 : tie.Need-half-word-requires-2
+half-word-requires-2 c κs = search needs
 
-mul-v : tie.Need-mul-v Inv-loop μ-loop
-mul-v c = omega (arith, low (c .before .loop .i) (c .loop-test .taken))
+add-result : tie.Need-add-result
+add-result c = omega (arith, c .before .half-word .ensures .1, c .half-word2 .ensures .1)
 
-add-v : tie.Need-add-v Inv-loop μ-loop
-add-v c = omega arith
-
-shared-slice-read-v : tie.Need-shared-slice-read-v Inv-loop μ-loop
-shared-slice-read-v c = omega arith
-
-cast-v : tie.Need-cast-v Inv-loop μ-loop
-cast-v c = omega (arith, c .shared-slice-known .given (c .before .before .before .args .at + c .before .before .loop .i))
-
-add-v-2 : tie.Need-add-v-2 Inv-loop μ-loop
-add-v-2 c = omega (arith, low (c .before .before .loop .i) (c .before .loop-test .taken), c .shared-slice-known .given (c .before .before .before .args .at + c .before .before .loop .i))
-
-add-i : tie.Need-add-i Inv-loop μ-loop
-add-i c = omega arith
-
-loop-less : tie.Need-loop-less Inv-loop μ-loop
-loop-less c = omega arith
-
-loop-again : tie.Need-loop-again Inv-loop μ-loop
-loop-again c =
-    let l = c .before .before .loop in
-    let a = c .before .before .before .args in
-    let b = c .shared-slice-known .given (a .at + l .i) in
-    (omega arith, big-grows _ _ (l .i) (l .inv .1) (omega (arith, b)), sym (big-more (a .t .now) (l .v) (a .at) (l .i) 8 (c .before .loop-test .taken) (omega arith)) ∙ l .inv .2)
-
-returns : tie.Need-returns Inv-loop μ-loop
-unfolding bigFrom
-returns c =
-    let l = c .before .loop in
-    let e : 8 - l .i ≡ 0 = omega arith in
-    rw e at (l .inv .2)
+returns : tie.Need-returns
+returns c = rw (c .before .half-word .ensures .0, c .half-word2 .ensures .0) (sym (big-halves 4 _ _ (c .before .before .before .pre)))
 
 pub word-spec : {M : Type 1} → statement M
 word-spec =
     tie.close
-    (tie.spec
-    Inv-loop
-    μ-loop
-    loop-holds
-    mul-v
-    add-v
-    shared-slice-read-v
-    cast-v
-    add-v-2
-    add-i
-    loop-less
-    loop-again
-    returns)
+    (tie.spec half-word-requires mul-result add-half-word half-word-requires-2 add-result returns)
