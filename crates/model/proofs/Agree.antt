@@ -34,13 +34,14 @@ use Rattle.readback.specs.Held.{heldCount, heldPixels, isHeld}
 use Rattle.compaction.proofs.Laws.{stack-again}
 use Rattle.compaction.proofs.Alike.{compact-answer, compact-bytes}
 use Rattle.archive.specs.Calls as C
-use Rattle.archive.specs.Calls.{Outcome, outcome, correctionLine, withdrawalLine, withLines, heldAs, changed, correctOutcome, correctionBack, lineBack, lastBack, withdrawOutcome, correctionAmended, lineAmended, lastAmended, amendOutcome}
+use Rattle.archive.specs.Calls.{Outcome, outcome, correctionLine, withdrawalLine, withLines, heldAs, changed, correctOutcome, correctionBack, lineBack, lastBack, withdrawOutcome, lineAmended, lastAmended, amendOutcome}
 use Rattle.model.specs.Model.{Call, correct, keep, withdraw, amend, compact, mayPurge, Answer, accepted, refused, Reply, Step, Ran, run, Entry, corrected, kept, Model, Opening, pixelsWith, refuse, accept, correctedBy, askedOf, isFull, written, withdrawnFrom, amendedFrom, modelStep}
 use Rattle.model.specs.Ledger.{Ledger, ledgerBytes, appended, onlyStanding, ledgerBy, ledgerAfter, ledgerRun}
 use Rattle.model.specs.Run.{State, stateOf, purged, after, afterOutcome, step, Counted, AllCounted}
 use Rattle.model.proofs.Held.{Pixels, pixels-set, Fits, Given, held-count, held-pixels, held-length, is-held, changed-is}
 use Rattle.model.proofs.Appending.{one-more, ledger-more, appended-then, behind-lines, Holds, holds-more, compacted-is, holds-standing}
 use Rattle.model.proofs.Dates.{keep-sized}
+use Rattle.model.proofs.Accepted.{withdrawal-sized, correction-sized}
 
 -- the lines of the entries of a stack, top first; the old count is that of the pixels below
 unfoldable pub lineStack : List ℕ → List Entry → List Line
@@ -291,7 +292,7 @@ module _ (o : Opening) (few : length (o .pixels) ≤ 2 ^ 24) (given : Given o) w
     unfolding rightFor
     less f′ l es′ top k fits good = record {
       fits = fits;
-      holds = holds-more (s .holds) withdrawalLine k (record { year = omega arith; month = omega arith; day = omega arith; pixel = omega arith; old = omega arith; new = omega arith }) refl (rw top (ne-eqb (suc (length (lineStack (o .pixels) es′))) 0 (λ z. omega arith)));
+      holds = holds-more (s .holds) withdrawalLine k withdrawal-sized refl (rw top (ne-eqb (suc (length (lineStack (o .pixels) es′))) 0 (λ z. omega arith)));
       top = stack-more [] (ls .lines) withdrawalLine ∙ rw top;
       good = good;
     }
@@ -356,7 +357,7 @@ module _ (o : Opening) (few : length (o .pixels) ≤ 2 ^ 24) (given : Given o) w
     correct-sized : (p k : ℕ) → p < length (o .pixels) → k < 4294967296 → Sized (correctionLine p (getD (px es) p 0) k)
     correct-sized p k h b =
         let pixel : p < 2 ^ 24 = omega arith in
-        record { year = omega arith; month = omega arith; day = omega arith; pixel = pixel; old = pixels .small p; new = b }
+        correction-sized p (getD (px es) p 0) k pixel (pixels .small p) b
 
     correct-agrees : (p k : ℕ) → k < 4294967296 → Agree ls (correct p k) (modelAt es ls) (step (correct p k) (stateAt f ls)) (modelStep o (correct p k) (modelAt es ls))
     unfolding step rightFor lineStack pixelsWith

@@ -24,11 +24,11 @@ use Rattle.ledger.proofs.Appending.{foundLines}
 use Rattle.opening.specs.declared.OpenAnswer.the-variants.{Opened}
 use Rattle.opening.specs.Open.{openAnswer}
 use Rattle.archive.specs.Calls.{correctionLine, withdrawalLine}
-use Rattle.model.specs.Model.{Call, correct, withdraw, amend, accepted, refused, Reply, Step, Ran, run, Entry, corrected, kept, Model, Opening, pixelsWith, refuse, accept, correctedBy, written, modelStep}
+use Rattle.model.specs.Model.{Call, correct, withdraw, amend, accepted, refused, Reply, Step, run, Entry, corrected, kept, Model, Opening, pixelsWith, refuse, accept, correctedBy, written, modelStep}
 use Rattle.model.specs.Ledger.{Ledger, ledgerBytes, ledgerAfter, ledgerRun}
-use Rattle.model.specs.Run.{State, step, AllCounted}
+use Rattle.model.specs.Run.{step, AllCounted}
 use Rattle.model.specs.Theorems.{backAndAnew, TwoSteps, AmendIsTwo, AmendLeavesTwo}
-use Rattle.model.proofs.Held.{Given, Fits}
+use Rattle.model.proofs.Held.{Given, same-frame}
 use Rattle.model.proofs.Appending.{appended-then}
 use Rattle.model.proofs.Agree.{lineStack, Same, stateAt, modelAt, step-agrees, runs-agree, found-last, model-correct, model-withdraw, model-amend}
 use Rattle.model.proofs.Exactly.{later, by-same}
@@ -83,9 +83,6 @@ pub amend-is-two : (o : Opening) → AmendIsTwo o
 amend-is-two o p k c n es there = two-steps o p k c n es there
 
 -- on real bytes
-
-same-frame : (o : Opening) (vs f g : List ℕ) → Fits o vs f → Fits o vs g → f ≡ g
-same-frame o vs f g a b = let e : frame f ≡ frame g = sym (a .made) ∙ b .made in cc
 
 one-call : (o : Opening) (c : Call) (m : Model) (g : Ledger) → ledgerRun o (c ∷ []) m g ≡ ledgerAfter o (modelStep o c m .reply .answer) m c g
 unfolding ledgerRun

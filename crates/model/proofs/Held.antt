@@ -51,6 +51,10 @@ pub record Fits (o : Opening) (vs f : List ℕ) : Type 0 where
   pub made : writerFrame (o .header) (F.Listed (o .form)) vs ≡ frame f
   pub room : length f ≤ o .heldLength
 
+-- the pixels decide the frame
+pub same-frame : (o : Opening) (vs f g : List ℕ) → Fits o vs f → Fits o vs g → f ≡ g
+same-frame o vs f g a b = let e : frame f ≡ frame g = sym (a .made) ∙ b .made in cc
+
 -- the opened header is accepted as one of FORMAT 100 with as many pixels as were opened
 pub record Given (o : Opening) : Type 0 where
   pub header : Header

@@ -1,6 +1,7 @@
 pub mod Held
 pub mod Appending
 pub mod Dates
+pub mod Accepted
 pub mod Agree
 pub mod Below
 pub mod Opened

@@ -2,125 +2,59 @@
 -- frame has the count that the answer for a pixel says.
 -- Assumes nothing.
 use mathlib.Core.Path.{_≡_, refl, sym, ap, _∙_}
-use mathlib.Core.Bool.{Bool, true, false, not, _&&_}
+use mathlib.Core.Bool.{Bool, true, false, not}
 use mathlib.Core.List.{List, [], _∷_, _++_, append-assoc, append-nil}
-use Prim.Native.Nat.{ℕ, zero, suc, _+_, _/_, _^_, _≤_, _<_}
+use Prim.Native.Nat.{ℕ, zero, suc, _+_, _^_, _≤_, _<_}
 use native.Mathlib.Omega.{arith}
-use lib.ListN.{length, getD, set}
+use lib.ListN.{length, getD}
 use lib.Seq.{getD-set-same, getD-set-other}
-use lib.Dec.{eqb, leb, ltb}
-use borrow.Author.Tests.{ne-eqb, leb-false, eqb-true, eqb-false}
+use lib.Dec.{eqb}
+use borrow.Author.Tests.{ne-eqb, eqb-true, eqb-false}
 use Rattle.lists.specs.Choose.{if_then_else_}
-use Rattle.lists.specs.Bytes.{heldBytes}
-use Rattle.refusal.specs.declared.Refusal.{Refusal}
 use Rattle.refusal.specs.declared.Refusal.the-variants as R
 use Rattle.layout.specs.declared.Form.{Form}
 use Rattle.writer.specs.declared.AskedForm.the-variants as F
-use Rattle.writer.specs.Writer as Writer
-use Rattle.writer.specs.Writer.{Made, frame}
 use Rattle.calendar.specs.declared.Date.{Date}
 use Rattle.calendar.specs.Calendar.{isDate, before}
-use Rattle.ledger.specs.declared.Kind.{Kind}
-use Rattle.ledger.specs.declared.Kind.the-variants.{Correction, Keep, Withdrawal}
 use Rattle.ledger.specs.declared.Line.{Line}
 use Rattle.ledger.specs.declared.Found.{Found}
 use Rattle.ledger.specs.declared.Found.the-variants.{At, Nothing}
-use Rattle.ledger.specs.declared.LedgerAnswer.the-variants as L
-use Rattle.ledger.specs.Lines.{linesOf, rightFor}
+use Rattle.ledger.specs.Lines.{linesOf}
 use Rattle.ledger.specs.Standing.{keeps, corrects, lastStanding, anyLine}
-use Rattle.ledger.specs.Ledger.{ledgerMalformed, withLine}
-use Rattle.ledger.proofs.Packing.{Sized, line-of-bytes}
+use Rattle.ledger.specs.Ledger.{ledgerMalformed}
+use Rattle.ledger.proofs.Packing.{line-of-bytes}
 use Rattle.ledger.proofs.StandingLaws.{stack}
-use Rattle.ledger.proofs.Scanning.{line-fields}
-use Rattle.ledger.proofs.Appending.{readAs, lines-appended, ledger-appended, foundLines, firstWhere, last-is-top}
+use Rattle.ledger.proofs.Appending.{ledger-appended, foundLines, firstWhere, last-is-top}
 use Rattle.compaction.proofs.Alike.{Alike, alike-last}
-use Rattle.readback.specs.Held.{heldCount, heldPixels, isHeld}
 use Rattle.opening.specs.declared.OpenAnswer.the-variants.{Opened}
 use Rattle.opening.specs.Open.{openAnswer}
-use Rattle.archive.specs.Calls as C
-use Rattle.archive.specs.Calls.{Outcome, outcome, withdrawalLine, heldAs, changed, lineBack, lastBack, withdrawOutcome}
+use Rattle.archive.specs.Calls.{withdrawalLine}
+use Rattle.archive.proofs.Outcomes.{withdraw-view, back-answer, back-ledger}
 use Rattle.why.specs.declared.Numbered.{Numbered}
 use Rattle.why.specs.declared.DayAnswer.the-variants as D
 use Rattle.why.specs.declared.PixelAnswer.the-variants as P
 use Rattle.why.specs.Why.{numbered, dayBy, dayReason, pixelBy, pixelReason}
-use Rattle.why.specs.Theorems.{dayNames, pixelNames, numberIn, standsAt}
+use Rattle.why.specs.Theorems.{numberIn, standsAt}
 use Rattle.why.proofs.Deciding.{namedIn, found-decides, AllWithdraw, number-falls}
 use Rattle.why.proofs.Answers.{Names, day-tests, pixel-tests, day-by, pixel-by, day-named, pixel-named}
-use Rattle.model.specs.Model.{Call, withdraw, compact, Answer, accepted, refused, Reply, run, Entry, corrected, kept, Opening, pixelsWith}
+use Rattle.model.specs.Model.{Call, withdraw, accepted, run, Entry, corrected, kept, Opening, pixelsWith}
 use Rattle.model.specs.Ledger.{Ledger, ledgerBytes}
-use Rattle.model.specs.Run.{State, answered, afterOutcome, step, openingOf, AllCounted}
-use Rattle.model.specs.Theorems.{dayAt, pixelAt, linesAt, withdrawals, AllAccepted, DayEarlier, PixelEarlier, dayUnnumbered, pixelUnnumbered, ReasonsUnobservable, countSaid, CountsExplained}
+use Rattle.model.specs.Run.{State, step, openingOf, AllCounted}
+use Rattle.model.specs.Theorems.{linesAt, withdrawals, AllAccepted, DayEarlier, PixelEarlier, dayUnnumbered, pixelUnnumbered, ReasonsUnobservable, countSaid, CountsExplained}
 use Rattle.model.proofs.Held.{Given, held-pixels}
-use Rattle.model.proofs.Agree.{lineStack, length-with, good-pixels, Same, stateAt, withdraw-outcome}
+use Rattle.model.proofs.Accepted.{taken, withdrawal-sized, withdrawal-writable, read-as, line-more}
+use Rattle.model.proofs.Agree.{lineStack, length-with, good-pixels, Same, stateAt}
 use Rattle.model.proofs.Compacted.{same-found, compacted-equivalent}
 use Rattle.model.proofs.Exactly.{later, by-opening}
 
 -- A withdrawal that is accepted.
 
-unaccepted : {r : Refusal} → refused r ≡ accepted → ⊥
-unaccepted e = let z : _≡_ {A = ℕ} 0 1 = cc in omega arith
-
-module _ (h t : List ℕ) (n : ℕ) where
-  record Took (o : Outcome) : Type 0 where
-    room : n < length t / 16
-    answer : o .answer ≡ L.Accepted (n + 1)
-    ledger : o .ledger ≡ withLine t n withdrawalLine
-
-  took-held : (made : Made) → n < length t / 16 → answered (heldAs h t n (withdrawalLine ∷ []) made .answer) ≡ accepted → Took (heldAs h t n (withdrawalLine ∷ []) made)
-  took-held (Writer.refused r) room e = absurd (unaccepted e)
-  took-held (frame f) room e = go (ltb (length h) (length f)) e
-    where
-      go : (b : Bool) → answered (if_then_else_ b (C.refuse h t n R.OutputShort) (outcome (L.Accepted (n + 1)) (heldBytes (length h) f) (withLine t n withdrawalLine)) .answer) ≡ accepted
-          → Took (if_then_else_ b (C.refuse h t n R.OutputShort) (outcome (L.Accepted (n + 1)) (heldBytes (length h) f) (withLine t n withdrawalLine)))
-      go true q = absurd (unaccepted q)
-      go false q = record { room = room; answer = refl; ledger = refl }
-
-  took-full : (o : Outcome) → (n < length t / 16 → answered (o .answer) ≡ accepted → Took o) → (b : Bool) → leb (length t / 16) n ≡ b
-      → answered (if_then_else_ b (C.refuse h t n R.LedgerFull) o .answer) ≡ accepted → Took (if_then_else_ b (C.refuse h t n R.LedgerFull) o)
-  took-full o k true q e = absurd (unaccepted e)
-  took-full o k false q e = k (leb-false (length t / 16) n q) e
-
-  took-if : (r : Refusal) (o : Outcome) → (answered (o .answer) ≡ accepted → Took o) → (b : Bool)
-      → answered (if_then_else_ b (C.refuse h t n r) o .answer) ≡ accepted → Took (if_then_else_ b (C.refuse h t n r) o)
-  took-if r o k true e = absurd (unaccepted e)
-  took-if r o k false e = k e
-
-  took-line : (k : Kind) (l : Line) → answered (lineBack h t n k l .answer) ≡ accepted → Took (lineBack h t n k l)
-  took-line Correction l e =
-      took-if R.NoSuchPixel _ (took-if R.PixelDiffers _ (took-full _ (took-held (changed h t n (l .pixel) (l .old))) (leb (length t / 16) n) refl)
-      (not (eqb (getD (heldPixels h) (l .pixel) 0) (l .new)))) (leb (heldCount h) (l .pixel)) e
-  took-line Keep l e = took-full _ (λ room q. record { room = room; answer = refl; ledger = refl }) (leb (length t / 16) n) refl e
-  took-line Withdrawal l e = absurd (unaccepted e)
-
-  record Withdrew (o : Outcome) : Type 0 where
-    took : Took o
-    well : ledgerMalformed t n ≡ false
-    some : 0 < length (stack [] (linesOf n t))
-
-  some-stands : (i : ℕ) (l : Line) → lastStanding anyLine 0 (linesOf n t) ≡ At i l → 0 < length (stack [] (linesOf n t))
-  some-stands i l e = go (stack [] (linesOf n t)) (sym (ap foundLines e) ∙ last-is-top anyLine 0 (linesOf n t))
-    where
-      go : (st : List Line) → l ∷ [] ≡ firstWhere anyLine st → 0 < length st
-      go [] q = let z : _≡_ {A = ℕ} 0 1 = cc in absurd (omega arith)
-      go (x ∷ st) q = omega arith
-
-  withdrew : answered (withdrawOutcome h t n .answer) ≡ accepted → Withdrew (withdrawOutcome h t n)
-  withdrew e = rw (withdraw-outcome h t n) (go (not (isHeld h)) (ledgerMalformed t n) refl (lastStanding anyLine 0 (linesOf n t)) refl (ap (λ (o : Outcome). answered (o .answer)) (sym (withdraw-outcome h t n)) ∙ e))
-    where
-      go : (a b : Bool) → ledgerMalformed t n ≡ b → (f : Found) → lastStanding anyLine 0 (linesOf n t) ≡ f
-          → answered (if_then_else_ a (C.refuse h t n R.HeldNotCanonical) (if_then_else_ b (C.refuse h t n R.LedgerMalformed) (lastBack h t n f)) .answer) ≡ accepted
-          → Withdrew (if_then_else_ a (C.refuse h t n R.HeldNotCanonical) (if_then_else_ b (C.refuse h t n R.LedgerMalformed) (lastBack h t n f)))
-      go true b q f p x = absurd (unaccepted x)
-      go false true q f p x = absurd (unaccepted x)
-      go false false q Nothing p x = absurd (unaccepted x)
-      go false false q (At i l) p x = record { took = took-line (l .kind) l x; well = q; some = some-stands i l p }
-
-withdrawal-sized : Sized withdrawalLine
-withdrawal-sized = record { year = omega arith; month = omega arith; day = omega arith; pixel = omega arith; old = omega arith; new = omega arith }
-
-withdrawal-read : readAs withdrawalLine ≡ withdrawalLine
-unfolding rightFor
-withdrawal-read = sym (line-fields _ withdrawalLine (line-of-bytes withdrawalLine withdrawal-sized refl))
+some-stands : (t : List ℕ) (n i : ℕ) (l : Line) → lastStanding anyLine 0 (linesOf n t) ≡ At i l → 0 < length (stack [] (linesOf n t))
+some-stands t n i l e = go (stack [] (linesOf n t)) (sym (ap foundLines e) ∙ last-is-top anyLine 0 (linesOf n t))
+  where
+    go : (st : List Line) → l ∷ [] ≡ firstWhere anyLine st → 0 < length st
+    go [] q = let z : _≡_ {A = ℕ} 0 1 = cc in absurd (omega arith)
+    go (x ∷ st) q = omega arith
 
 -- one accepted withdrawal on a ledger that is well formed: its line is appended, and the ledger stays so
 record Drawn (s u : State) : Type 0 where
@@ -130,19 +64,21 @@ record Drawn (s u : State) : Type 0 where
   well : ledgerMalformed (s .ledger) (s .lines) ≡ false → ledgerMalformed (u .ledger) (u .lines) ≡ false
 
 drawn-one : (s : State) → step withdraw s .reply .answer ≡ accepted → Drawn s (step withdraw s .state)
-unfolding step rightFor
+unfolding step
 drawn-one s e =
     let h : List ℕ = s .held in
     let t : List ℕ = s .ledger in
     let n : ℕ = s .lines in
-    let w = withdrew h t n e in
-    let k = w .took in
-    let right = line-of-bytes withdrawalLine withdrawal-sized refl in
+    let w = taken h t n (withdraw-view h t n) e in
+    let answer = back-answer h t n (w .back) in
+    let ledger = back-ledger h t n (w .back) in
+    let right = line-of-bytes withdrawalLine withdrawal-sized (withdrawal-writable .right) in
     record {
       more = withdrawalLine ∷ [];
       withdraw = (refl, tt);
-      lines = rw (k .answer, k .ledger) (lines-appended t n withdrawalLine (k .room) ∙ rw withdrawal-read);
-      well = λ well. rw (k .answer, k .ledger) (ledger-appended t n withdrawalLine (k .room) ∙ rw (well, right, withdrawal-read, ne-eqb (length (stack [] (linesOf n t))) 0 (λ z. omega (arith, w .some))));
+      lines = rw (answer, ledger) (line-more t n (w .room) withdrawal-writable);
+      well = λ well. rw (answer, ledger) (ledger-appended t n withdrawalLine (w .room)
+      ∙ rw (well, right, read-as withdrawal-writable, ne-eqb (length (stack [] (linesOf n t))) 0 (λ z. omega (arith, some-stands t n (w .index) (w .line) (w .last)))));
     }
 
 drawn : (count : ℕ) (s : State) → AllAccepted (run step (withdrawals count) s .replies) → Drawn s (run step (withdrawals count) s .state)
