@@ -1,0 +1,67 @@
+-- A buffer that holds a frame with other pixels: each call leaves such a buffer again, and the pixels say all its bytes.
+-- Assumes nothing.
+use mathlib.Core.Path.{_≡_, refl, sym, ap, _∙_}
+use mathlib.Core.Bool.{Bool, true, false}
+use mathlib.Core.List.{List, [], _∷_}
+use Prim.Native.Nat.{ℕ, _-_, _≤_, _<_}
+use native.Mathlib.Omega.{arith}
+use lib.ListN.{length, getD, set, length-append}
+use Rattle.lists.specs.Bytes.{zeros, heldBytes}
+use Rattle.ledger.specs.declared.Line.{Line}
+use Rattle.writer.specs.Writer.{frame}
+use Rattle.readback.specs.Held.{heldPixels, isHeld}
+use Rattle.readback.proofs.HeldOpened.{Opened, pixels-fit}
+use Rattle.archive.specs.Calls.{Outcome}
+use Rattle.archive.proofs.Outcomes.{Changed}
+use Rattle.model.specs.Model.{Opening}
+use Rattle.model.proofs.Held.{Pixels, pixels-set, Fits, same-frame, Given, held-length, held-pixels, changed-is}
+
+-- what a held buffer would be opened as: its own header and pixels, in its form; no ledger is asked
+abbrev pub openedAs : (held : List ℕ) → Opened held → Opening
+openedAs held o = record { header = held; pixels = heldPixels held; form = o .form; heldLength = length held; ledgerLength = 0 }
+
+pub given-of : (held : List ℕ) (o : Opened held) → Given (openedAs held o)
+given-of held o = record { header = o .header; tables = o .tables; accepted = o .accepted; binary = o .binary; count = o .all }
+
+-- b holds the writer's frame for the pixels vs
+pub record Kept (o : Opening) (vs b : List ℕ) : Type 0 where
+  pub pixels : Pixels (length (o .pixels)) vs
+  pub bytes : List ℕ
+  pub fits : Fits o vs bytes
+  pub is : b ≡ heldBytes (o .heldLength) bytes
+
+-- a frame lies within its buffer
+inside : (n : ℕ) (b f : List ℕ) → b ≡ heldBytes n f → length f ≤ length b
+unfolding heldBytes
+inside n b f e = let l = ap length e ∙ length-append f (zeros (n - length f)) in omega arith
+
+pub kept-first : (held : List ℕ) (o : Opened held) → isHeld held ≡ true → ((i : ℕ) → getD held i 0 < 256) → Kept (openedAs held o) (heldPixels held) held
+kept-first held o h small = record {
+  pixels = record { size = refl; small = pixels-fit held (o .header) (o .tables) (o .accepted) (o .binary) h small };
+  bytes = o .bytes;
+  fits = record { made = o .written; room = inside (length held) held (o .bytes) (o .filled) };
+  is = o .filled;
+}
+
+module _ (o : Opening) (g : Given o) where
+  -- the pixels say the bytes
+  pub kept-same : {vs ws b c : List ℕ} → vs ≡ ws → Kept o vs b → Kept o ws c → b ≡ c
+  kept-same {vs} {ws} {b} {c} e k l = k .is ∙ rw (same-frame o ws (k .bytes) (l .bytes) (rw e at (k .fits)) (l .fits)) (sym (l .is))
+
+  module _ {vs b : List ℕ} (k : Kept o vs b) where
+    pub kept-pixels : heldPixels b ≡ vs
+    kept-pixels = rw (k .is) (held-pixels o vs (k .bytes) (k .pixels) (k .fits) g)
+
+    kept-length : length b ≡ o .heldLength
+    kept-length = rw (k .is) (held-length o vs (k .bytes) (k .pixels) (k .fits) g)
+
+    -- one pixel has got another count
+    pub kept-changed : {ledger : List ℕ} {lines p c : ℕ} {added : List Line} {out : Outcome} → c < 4294967296 → Changed b ledger lines p c added out → Kept o (set vs p c) (out .held)
+    kept-changed {ledger} {lines} {p} {c} {added} {out} small w =
+        let frame-is = rw (k .is) at (w .made) in
+        record {
+          pixels = pixels-set (k .pixels) p c small;
+          bytes = w .bytes;
+          fits = record { made = sym (changed-is o vs (k .bytes) (k .pixels) (k .fits) g ledger lines p c) ∙ frame-is; room = rw kept-length at (w .fits) };
+          is = ap (λ (x : Outcome). x .held) (w .is) ∙ rw kept-length;
+        }

@@ -1,0 +1,1 @@
+// Theorems about lists of corrections: no function.
