@@ -3,8 +3,8 @@
 use mathlib.Core.Path.{_≡_, refl, sym, ap, _∙_}
 use mathlib.Core.Bool.{Bool, true, false, not}
 use mathlib.Core.List.{List, [], _∷_}
-use Prim.Native.Nat.{ℕ, _+_, _*_, _/_, _≤_}
-use native.Mathlib.Nat.{mul-le-mul-left, mul-le-mul-right}
+use Prim.Native.Nat.{ℕ, _+_, _/_, _^_, _≤_}
+use native.Mathlib.Nat.{mul-le-mul}
 use borrow.Author.Tests.{le-leb, lt-leb, leb-true, leb-false}
 use native.Mathlib.Omega.{arith}
 use lib.ListN.{length, getD}
@@ -257,15 +257,12 @@ pub surveyed : (t : List ℕ) (lines : ℕ) (y : Summary) → surveyOf t lines �
 unfolding summaryFor
 surveyed t lines y e = let s = survey-sound t lines y e in (s .well, ap (λ (x : Summary). x .last) (s .is))
 
--- a frame has fewer pixels than 32 bits count
-area-small : (m n : ℕ) → m ≤ 4096 → n ≤ 4096 → m * n ≤ 4294967295
-area-small m n h k = omega (arith, mul-le-mul-left m k, mul-le-mul-right 4096 h)
-
-few : (held : List ℕ) → isHeld held ≡ true → heldCount held ≤ 4294967295
+-- a frame has at most 4096 × 4096 pixels
+pub few : (held : List ℕ) → isHeld held ≡ true → heldCount held ≤ 2 ^ 24
 few held is =
     let o = opened held is in
     let b = accepted-bounds held (o .header) (o .accepted) in
-    rw (count-of held (o .header) (o .accepted)) (area-small (o .header .image .rows) (o .header .image .columns) (b .rows-high) (b .columns-high))
+    rw (count-of held (o .header) (o .accepted)) (mul-le-mul (b .rows-high) (b .columns-high))
 
 outside-tests : (a b : Bool) (p q : Bool) (x y z w v : Outcome) → (a ≡ true → p ≡ true) → (a ≡ true → q ≡ true)
     → if_then_else_ (not a) x (if_then_else_ b y (if_then_else_ p z w)) ≡ if_then_else_ (not a) x (if_then_else_ b y (if_then_else_ q z v))
@@ -280,7 +277,7 @@ correct-within held ledger lines pixel count = go (leb pixel 4294967295) refl
     go true e = refl
     go false e =
         outside-tests (isHeld held) (ledgerMalformed ledger lines) (leb (heldCount held) 4294967295) (leb (heldCount held) pixel) _ _ _ _ _
-        (λ (is : isHeld held ≡ true). le-leb (heldCount held) 4294967295 (few held is))
+        (λ (is : isHeld held ≡ true). le-leb (heldCount held) 4294967295 (omega (arith, few held is)))
         (λ (is : isHeld held ≡ true). le-leb (heldCount held) pixel (let f = few held is in let l = leb-false pixel 4294967295 e in omega arith))
 
 pub correct-clamped : (held ledger : List ℕ) (lines pixel count p : ℕ) → p ≡ within32 pixel → correctOutcome held ledger lines p count ≡ correctOutcome held ledger lines pixel count

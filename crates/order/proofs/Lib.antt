@@ -1,3 +1,4 @@
 pub mod Kept
 pub mod Counts
 pub mod Order
+pub mod Back

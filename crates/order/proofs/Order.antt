@@ -22,11 +22,11 @@ use Rattle.order.specs.Order.{Correction, correction, corrections, Accep
 use Rattle.order.proofs.Kept.{openedAs, given-of, Kept, kept-first, kept-same, kept-changed}
 use Rattle.order.proofs.Counts.{made, made-same}
 
-abbrev outcomeOf : State → ℕ → ℕ → Outcome
+abbrev pub outcomeOf : State → ℕ → ℕ → Outcome
 outcomeOf s p c = correctOutcome (s .held) (s .ledger) (s .lines) p c
 
 -- an accepted correction
-corrected-by : (s : State) (p c : ℕ) → step (correct p c) s .reply .answer ≡ accepted → Corrected (s .held) (s .ledger) (s .lines) p c (outcomeOf s p c)
+pub corrected-by : (s : State) (p c : ℕ) → step (correct p c) s .reply .answer ≡ accepted → Corrected (s .held) (s .ledger) (s .lines) p c (outcomeOf s p c)
 unfolding step
 corrected-by s p c a = taken (s .held) (s .ledger) (s .lines) (correct-view (s .held) (s .ledger) (s .lines) p c) a
 
