@@ -1,29 +1,25 @@
 -- Corrections and then as many withdrawals: each takes back the last line that stands, which is the last correction's.
 -- Assumes nothing.
 use mathlib.Core.Path.{_≡_, refl, sym, ap, _∙_}
-use mathlib.Core.Bool.{true, false}
+use mathlib.Core.Bool.{true}
 use mathlib.Core.List.{List, [], _∷_, _++_}
-use Prim.Native.Nat.{ℕ, zero, suc, _+_, _^_, _≤_, _<_}
+use Prim.Native.Nat.{ℕ, suc, _+_, _<_}
 use native.Mathlib.Nat.{zero-add}
 use native.Mathlib.Omega.{arith}
 use lib.ListN.{length, getD, set}
 use lib.Seq.{set-set, set-getD}
-use Rattle.lists.specs.Choose.{if_then_else_}
-use Rattle.ledger.specs.declared.Kind.{Kind}
 use Rattle.ledger.specs.declared.Kind.the-variants as K
 use Rattle.ledger.specs.declared.Line.{Line}
-use Rattle.ledger.specs.declared.Found.{Found}
-use Rattle.ledger.specs.declared.Found.the-variants.{At, Nothing}
-use Rattle.ledger.specs.Lines.{linesOf}
+use Rattle.ledger.specs.declared.Found.the-variants.{At}
 use Rattle.ledger.specs.Standing.{lastStanding, anyLine}
 use Rattle.ledger.proofs.StandingLaws.{stack, stack-more}
 use Rattle.ledger.proofs.Appending.{foundLines, firstWhere, last-is-top}
 use Rattle.ledger.proofs.Written.{Each}
 use Rattle.readback.specs.Held.{heldPixels, isHeld}
 use Rattle.readback.proofs.HeldOpened.{Opened, opened}
-use Rattle.archive.specs.Calls.{Outcome, correctionLine, withdrawalLine, correctOutcome, withdrawOutcome}
+use Rattle.archive.specs.Calls.{Outcome, correctionLine, withdrawalLine}
 use Rattle.archive.proofs.Changes.{few}
-use Rattle.archive.proofs.Outcomes.{Changed, Corrected, Withdrawn, Back, corrected, kept, withdraw-view, back-answer, back-ledger}
+use Rattle.archive.proofs.Outcomes.{Back, corrected, kept, withdraw-view, back-answer, back-ledger}
 use Rattle.model.specs.Model.{Call, correct, withdraw, accepted, Reply, run, Opening}
 use Rattle.model.specs.Run.{State, step, AllCounted}
 use Rattle.model.specs.Theorems.{linesAt, withdrawals, AllAccepted}

@@ -1,14 +1,13 @@
 -- A buffer that holds a frame with other pixels: each call leaves such a buffer again, and the pixels say all its bytes.
 -- Assumes nothing.
 use mathlib.Core.Path.{_≡_, refl, sym, ap, _∙_}
-use mathlib.Core.Bool.{Bool, true, false}
-use mathlib.Core.List.{List, [], _∷_}
+use mathlib.Core.Bool.{true}
+use mathlib.Core.List.{List}
 use Prim.Native.Nat.{ℕ, _-_, _≤_, _<_}
 use native.Mathlib.Omega.{arith}
 use lib.ListN.{length, getD, set, length-append}
 use Rattle.lists.specs.Bytes.{zeros, heldBytes}
 use Rattle.ledger.specs.declared.Line.{Line}
-use Rattle.writer.specs.Writer.{frame}
 use Rattle.readback.specs.Held.{heldPixels, isHeld}
 use Rattle.readback.proofs.HeldOpened.{Opened, pixels-fit}
 use Rattle.archive.specs.Calls.{Outcome}

@@ -1,26 +1,25 @@
 -- Document 02, A7, proved.
 -- Assumes nothing.
-use mathlib.Core.Path.{_≡_, refl, sym, ap, subst, _∙_}
+use mathlib.Core.Path.{_≡_, refl, sym, _∙_}
 use mathlib.Core.Bool.{Bool, true, false}
-use mathlib.Core.List.{List, [], _∷_, _++_}
-use Prim.Native.Nat.{ℕ, _+_, _<_}
+use mathlib.Core.List.{List, [], _∷_}
+use Prim.Native.Nat.{ℕ, _<_}
 use native.Mathlib.Omega.{arith}
 use lib.ListN.{length, getD, set}
 use lib.Dec.{eqb}
 use borrow.Author.Tests.{eqb-true}
 use Rattle.lists.specs.Choose.{if_then_else_}
-use Rattle.readback.specs.Held.{heldPixels, isHeld}
-use Rattle.readback.proofs.HeldOpened.{Opened, opened}
+use Rattle.readback.specs.Held.{heldCount, heldPixels, isHeld}
+use Rattle.readback.proofs.HeldOpened.{Opened, opened, count-of}
 use Rattle.archive.specs.Calls.{Outcome, correctOutcome}
 use Rattle.archive.proofs.Outcomes.{Corrected, correct-view}
-use Rattle.model.specs.Model.{Call, correct, accepted, run, Opening}
+use Rattle.model.specs.Model.{correct, accepted, run, Opening}
 use Rattle.model.specs.Run.{State, step, AllCounted}
-use Rattle.model.specs.Theorems.{AllAccepted}
 use Rattle.model.proofs.Held.{Given}
 use Rattle.model.proofs.Accepted.{taken}
-use Rattle.order.specs.Order.{Correction, correction, corrections, Accepted, heldAfter, OfBytes, lastCount, SameCounts, LastCountsDecide, EitherOrder, SecondDecides}
-use Rattle.order.proofs.Kept.{openedAs, given-of, Kept, kept-first, kept-same, kept-changed}
-use Rattle.order.proofs.Counts.{made, made-same}
+use Rattle.order.specs.Order.{Correction, correction, corrections, Accepted, heldAfter, OfBytes, lastCount, SameCounts, LastCountsHeld, LastCountsDecide, EitherOrder, SecondDecides}
+use Rattle.order.proofs.Kept.{openedAs, given-of, Kept, kept-first, kept-same, kept-pixels, kept-changed}
+use Rattle.order.proofs.Counts.{made, made-at, made-same}
 
 abbrev pub outcomeOf : State → ℕ → ℕ → Outcome
 outcomeOf s p c = correctOutcome (s .held) (s .ledger) (s .lines) p c
@@ -48,6 +47,20 @@ unfolding run
 canonical s x xs a = corrected-by s (x .pixel) (x .count) (a .0) .change .canonical
 
 -- from a held buffer that is the writer's own
+held-last : (s : State) → OfBytes s → isHeld (s .held) ≡ true → (xs : List Correction) → AllCounted (corrections xs) → Accepted s (corrections xs)
+    → (pixel : ℕ) → pixel < heldCount (s .held) → getD (heldPixels (heldAfter s (corrections xs))) pixel 0 ≡ lastCount pixel (getD (heldPixels (s .held)) pixel 0) xs
+held-last s bytes i xs counted a pixel inside =
+    let o : Opened (s .held) = opened (s .held) i in
+    let g = given-of (s .held) o in
+    let k = kept-made (openedAs (s .held) o) g s (kept-first (s .held) o i bytes) xs counted a in
+    let n : pixel < length (heldPixels (s .held)) = omega (arith, o .all, count-of (s .held) (o .header) (o .accepted)) in
+    rw (kept-pixels (openedAs (s .held) o) g k) (made-at (heldPixels (s .held)) pixel n xs)
+
+pub last-counts-held : LastCountsHeld
+unfolding run
+last-counts-held s bytes [] counted a pixel inside = refl
+last-counts-held s bytes (x ∷ xs) counted a pixel inside = held-last s bytes (canonical s x xs a) (x ∷ xs) counted a pixel inside
+
 held-same : (s : State) → OfBytes s → isHeld (s .held) ≡ true → (xs ys : List Correction) → AllCounted (corrections xs) → AllCounted (corrections ys)
     → Accepted s (corrections xs) → Accepted s (corrections ys) → SameCounts s xs ys → heldAfter s (corrections xs) ≡ heldAfter s (corrections ys)
 held-same s bytes i xs ys cx cy ax ay same =

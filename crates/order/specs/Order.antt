@@ -6,7 +6,7 @@ use mathlib.Core.List.{List, [], _∷_, _++_}
 use lib.ListN.{length, getD}
 use lib.Dec.{eqb}
 use Rattle.lists.specs.Choose.{if_then_else_}
-use Rattle.readback.specs.Held.{heldPixels}
+use Rattle.readback.specs.Held.{heldCount, heldPixels}
 use Rattle.model.specs.Model.{Call, correct, withdraw, run}
 use Rattle.model.specs.Run.{State, step, AllCounted}
 use Rattle.model.specs.Theorems.{withdrawals, AllAccepted}
@@ -50,6 +50,13 @@ abbrev pub PixelsDecide : Type 0
 PixelsDecide =
     (s : State) → OfBytes s → (cs ds : List Call) → AllCounted cs → AllCounted ds
     → heldPixels (heldAfter s cs) ≡ heldPixels (heldAfter s ds) → heldAfter s cs ≡ heldAfter s ds
+
+-- After accepted corrections each pixel of the held frame has its last count.
+abbrev pub LastCountsHeld : Type 0
+LastCountsHeld =
+    (s : State) → OfBytes s → (xs : List Correction) → AllCounted (corrections xs) → Accepted s (corrections xs)
+    → (pixel : ℕ) → pixel < heldCount (s .held)
+    → getD (heldPixels (heldAfter s (corrections xs))) pixel 0 ≡ lastCount pixel (getD (heldPixels (s .held)) pixel 0) xs
 
 -- Accepted corrections that leave each pixel with the same count leave the same bytes, in whatever order and however many they are.
 abbrev pub LastCountsDecide : Type 0
