@@ -78,7 +78,7 @@ drawn-one s e =
       withdraw = (refl, tt);
       lines = rw (answer, ledger) (line-more t n (w .room) withdrawal-writable);
       well = λ well. rw (answer, ledger) (ledger-appended t n withdrawalLine (w .room)
-      ∙ rw (well, right, read-as withdrawal-writable, ne-eqb (length (stack [] (linesOf n t))) 0 (λ z. omega (arith, some-stands t n (w .index) (w .line) (w .last)))));
+          ∙ rw (well, right, read-as withdrawal-writable, ne-eqb (length (stack [] (linesOf n t))) 0 (λ z. omega (arith, some-stands t n (w .index) (w .line) (w .last)))));
     }
 
 drawn : (count : ℕ) (s : State) → AllAccepted (run step (withdrawals count) s .replies) → Drawn s (run step (withdrawals count) s .state)

@@ -79,8 +79,8 @@ module _ (o : Opening) (g : Given o) (base : List Line) where
       record {
         held = held-back s (k .held) (k .each .0) (rw same at (w .back));
         stacked =
-        rw (back-answer (s .held) (s .ledger) (s .lines) (w .back), back-ledger (s .held) (s .ledger) (s .lines) (w .back))
-        (rw (line-more (s .ledger) (s .lines) (w .room) withdrawal-writable, stack-more [] (linesAt s) withdrawalLine, k .stacked));
+            rw (back-answer (s .held) (s .ledger) (s .lines) (w .back), back-ledger (s .held) (s .ledger) (s .lines) (w .back))
+            (rw (line-more (s .ledger) (s .lines) (w .room) withdrawal-writable, stack-more [] (linesAt s) withdrawalLine, k .stacked));
         each = k .each .1;
       }
 
