@@ -16,14 +16,13 @@ use Rattle.ledger.specs.Ledger.{ledgerMalformed}
 use Rattle.ledger.proofs.Scanning.{lines-well}
 use Rattle.ledger.proofs.Written.{Each, Writable, lines-writable}
 use Rattle.readback.specs.Held.{heldPixels, isHeld}
-use Rattle.readback.proofs.HeldOpened.{Opened, opened}
 use Rattle.archive.specs.Calls.{Outcome}
 use Rattle.archive.proofs.Outcomes.{Changed, Either, left, done, Back, corrected, kept, correct-view, withdraw-view, amend-view}
 use Rattle.model.specs.Model.{Call, correct, keep, withdraw, amend, compact, mayPurge, run, Opening}
 use Rattle.model.specs.Run.{State, step, Counted, AllCounted}
 use Rattle.model.proofs.Held.{Given}
 use Rattle.order.specs.Order.{heldAfter, PixelsDecide}
-use Rattle.order.proofs.Kept.{openedAs, given-of, Kept, kept-first, kept-same, kept-pixels, kept-changed}
+use Rattle.order.proofs.Kept.{Kept, start, kept-same, kept-pixels, kept-changed}
 
 -- what a call leaves in a held buffer: its bytes, or the frame with one count changed
 data Leaves (s : State) (b : List ℕ) : Type 0 where
@@ -103,8 +102,6 @@ pixels-decide s bytes cs ds cn dn e = go (isHeld (s .held)) refl
     go : (b : Bool) → isHeld (s .held) ≡ b → heldAfter s cs ≡ heldAfter s ds
     go false n = all-stay cs s cn n ∙ sym (all-stay ds s dn n)
     go true i =
-        let h : Opened (s .held) = opened (s .held) i in
-        let o : Opening = openedAs (s .held) h in
-        let g = given-of (s .held) h in
-        let first : Holding o (s .held) = record { pixels = heldPixels (s .held); kept = kept-first (s .held) h i bytes } in
-        holding-same o g (holding-after o g cs s cn first) (holding-after o g ds s dn first) e
+        let f = start (s .held) i bytes in
+        let first : Holding (f .opening) (s .held) = record { pixels = heldPixels (s .held); kept = f .kept } in
+        holding-same (f .opening) (f .given) (holding-after (f .opening) (f .given) cs s cn first) (holding-after (f .opening) (f .given) ds s dn first) e

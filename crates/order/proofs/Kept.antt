@@ -8,19 +8,12 @@ use native.Mathlib.Omega.{arith}
 use lib.ListN.{length, getD, set, length-append}
 use Rattle.lists.specs.Bytes.{zeros, heldBytes}
 use Rattle.ledger.specs.declared.Line.{Line}
-use Rattle.readback.specs.Held.{heldPixels, isHeld}
-use Rattle.readback.proofs.HeldOpened.{Opened, pixels-fit}
+use Rattle.readback.specs.Held.{heldCount, heldPixels, isHeld}
+use Rattle.readback.proofs.HeldOpened.{Opened, opened, count-of, pixels-fit}
 use Rattle.archive.specs.Calls.{Outcome}
 use Rattle.archive.proofs.Outcomes.{Changed}
 use Rattle.model.specs.Model.{Opening}
 use Rattle.model.proofs.Held.{Pixels, pixels-set, Fits, same-frame, Given, held-length, held-pixels, changed-is}
-
--- what a held buffer would be opened as: its own header and pixels, in its form; no ledger is asked
-abbrev pub openedAs : (held : List ℕ) → Opened held → Opening
-openedAs held o = record { header = held; pixels = heldPixels held; form = o .form; heldLength = length held; ledgerLength = 0 }
-
-pub given-of : (held : List ℕ) (o : Opened held) → Given (openedAs held o)
-given-of held o = record { header = o .header; tables = o .tables; accepted = o .accepted; binary = o .binary; count = o .all }
 
 -- b holds the writer's frame for the pixels vs
 pub record Kept (o : Opening) (vs b : List ℕ) : Type 0 where
@@ -34,13 +27,27 @@ inside : (n : ℕ) (b f : List ℕ) → b ≡ heldBytes n f → length f ≤ len
 unfolding heldBytes
 inside n b f e = let l = ap length e ∙ length-append f (zeros (n - length f)) in omega arith
 
-pub kept-first : (held : List ℕ) (o : Opened held) → isHeld held ≡ true → ((i : ℕ) → getD held i 0 < 256) → Kept (openedAs held o) (heldPixels held) held
-kept-first held o h small = record {
-  pixels = record { size = refl; small = pixels-fit held (o .header) (o .tables) (o .accepted) (o .binary) h small };
-  bytes = o .bytes;
-  fits = record { made = o .written; room = inside (length held) held (o .bytes) (o .filled) };
-  is = o .filled;
-}
+-- a held buffer that is the writer's own, as it would be opened: its header and pixels, in its form; no ledger is asked
+pub record Start (held : List ℕ) : Type 0 where
+  pub opening : Opening
+  pub given : Given opening
+  pub kept : Kept opening (heldPixels held) held
+  pub count : heldCount held ≡ length (heldPixels held)
+
+pub start : (held : List ℕ) → isHeld held ≡ true → ((i : ℕ) → getD held i 0 < 256) → Start held
+start held i small =
+    let o : Opened held = opened held i in
+    record {
+      opening = record { header = held; pixels = heldPixels held; form = o .form; heldLength = length held; ledgerLength = 0 };
+      given = record { header = o .header; tables = o .tables; accepted = o .accepted; binary = o .binary; count = o .all };
+      kept = record {
+        pixels = record { size = refl; small = pixels-fit held (o .header) (o .tables) (o .accepted) (o .binary) i small };
+        bytes = o .bytes;
+        fits = record { made = o .written; room = inside (length held) held (o .bytes) (o .filled) };
+        is = o .filled;
+      };
+      count = count-of held (o .header) (o .accepted) ∙ sym (o .all);
+    }
 
 module _ (o : Opening) (g : Given o) where
   -- the pixels say the bytes

@@ -5,12 +5,11 @@ use mathlib.Core.Bool.{Bool, true, false}
 use mathlib.Core.List.{List, [], _∷_}
 use Prim.Native.Nat.{ℕ, _<_}
 use native.Mathlib.Omega.{arith}
-use lib.ListN.{length, getD, set}
+use lib.ListN.{getD, set}
 use lib.Dec.{eqb}
 use borrow.Author.Tests.{eqb-true}
 use Rattle.lists.specs.Choose.{if_then_else_}
 use Rattle.readback.specs.Held.{heldCount, heldPixels, isHeld}
-use Rattle.readback.proofs.HeldOpened.{Opened, opened, count-of}
 use Rattle.archive.specs.Calls.{Outcome, correctOutcome}
 use Rattle.archive.proofs.Outcomes.{Corrected, correct-view}
 use Rattle.model.specs.Model.{correct, accepted, run, Opening}
@@ -18,7 +17,7 @@ use Rattle.model.specs.Run.{State, step, AllCounted}
 use Rattle.model.proofs.Held.{Given}
 use Rattle.model.proofs.Accepted.{taken}
 use Rattle.order.specs.Order.{Correction, correction, corrections, Accepted, heldAfter, OfBytes, lastCount, SameCounts, LastCountsHeld, LastCountsDecide, EitherOrder, SecondDecides}
-use Rattle.order.proofs.Kept.{openedAs, given-of, Kept, kept-first, kept-same, kept-pixels, kept-changed}
+use Rattle.order.proofs.Kept.{Kept, start, kept-same, kept-pixels, kept-changed}
 use Rattle.order.proofs.Counts.{made, made-at, made-same}
 
 abbrev pub outcomeOf : State → ℕ → ℕ → Outcome
@@ -50,11 +49,9 @@ canonical s x xs a = corrected-by s (x .pixel) (x .count) (a .0) .change .canoni
 held-last : (s : State) → OfBytes s → isHeld (s .held) ≡ true → (xs : List Correction) → AllCounted (corrections xs) → Accepted s (corrections xs)
     → (pixel : ℕ) → pixel < heldCount (s .held) → getD (heldPixels (heldAfter s (corrections xs))) pixel 0 ≡ lastCount pixel (getD (heldPixels (s .held)) pixel 0) xs
 held-last s bytes i xs counted a pixel inside =
-    let o : Opened (s .held) = opened (s .held) i in
-    let g = given-of (s .held) o in
-    let k = kept-made (openedAs (s .held) o) g s (kept-first (s .held) o i bytes) xs counted a in
-    let n : pixel < length (heldPixels (s .held)) = omega (arith, o .all, count-of (s .held) (o .header) (o .accepted)) in
-    rw (kept-pixels (openedAs (s .held) o) g k) (made-at (heldPixels (s .held)) pixel n xs)
+    let f = start (s .held) i bytes in
+    let k = kept-made (f .opening) (f .given) s (f .kept) xs counted a in
+    rw (kept-pixels (f .opening) (f .given) k) (made-at (heldPixels (s .held)) pixel (omega (arith, f .count)) xs)
 
 pub last-counts-held : LastCountsHeld
 unfolding run
@@ -64,11 +61,9 @@ last-counts-held s bytes (x ∷ xs) counted a pixel inside = held-last s bytes (
 held-same : (s : State) → OfBytes s → isHeld (s .held) ≡ true → (xs ys : List Correction) → AllCounted (corrections xs) → AllCounted (corrections ys)
     → Accepted s (corrections xs) → Accepted s (corrections ys) → SameCounts s xs ys → heldAfter s (corrections xs) ≡ heldAfter s (corrections ys)
 held-same s bytes i xs ys cx cy ax ay same =
-    let o : Opened (s .held) = opened (s .held) i in
-    let g = given-of (s .held) o in
-    let first = kept-first (s .held) o i bytes in
-    kept-same (openedAs (s .held) o) g (made-same (heldPixels (s .held)) xs ys same)
-    (kept-made (openedAs (s .held) o) g s first xs cx ax) (kept-made (openedAs (s .held) o) g s first ys cy ay)
+    let f = start (s .held) i bytes in
+    kept-same (f .opening) (f .given) (made-same (heldPixels (s .held)) xs ys same)
+    (kept-made (f .opening) (f .given) s (f .kept) xs cx ax) (kept-made (f .opening) (f .given) s (f .kept) ys cy ay)
 
 pub last-counts-decide : LastCountsDecide
 last-counts-decide s bytes [] [] cx cy ax ay same = refl
