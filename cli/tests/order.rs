@@ -4,6 +4,8 @@ use common::header::{Header, LENGTH};
 use common::random::Random;
 use common::{command, folder, frame, plain_frame, ran, state_of, unraw, wide_frame, Folder, State};
 use std::collections::BTreeMap;
+use std::path::Path;
+use std::process::Command;
 use std::thread;
 
 /// A pixel's number and the count that it gets.
@@ -396,4 +398,29 @@ fn takes_all_back(f: &Folder, lists: &[[Named; 3]]) {
     for (number, [first, ..]) in lists.iter().enumerate() {
         assert!(held(f, &first.0) == frames[number % FORMS.len()], "seed {SEED:#x}, {first:?}");
     }
+}
+
+// The manual
+
+/// What the shell says to a line in which `quayrudder` is the real command.
+fn by_shell(f: &Folder, line: &str) -> String {
+    let folder = Path::new(env!("CARGO_BIN_EXE_quayrudder")).parent().unwrap().display();
+    let path = format!("{folder}:{}", std::env::var("PATH").unwrap());
+    let ran = ran(Command::new("sh").args(["-c", line]).env("PATH", path).current_dir(f.path()).output().unwrap());
+    ran.out + &ran.err
+}
+
+#[test]
+fn the_manual_shows_what_the_commands_say() {
+    let manual = std::fs::read_to_string(concat!(env!("CARGO_MANIFEST_DIR"), "/../docs/MANUAL.md")).unwrap();
+    let (_, section) = manual.split_once("\n### In which order?\n").unwrap();
+    let (section, _) = section.split_once("\n## ").unwrap();
+    let example: Vec<&str> = section.lines().filter_map(|line| line.strip_prefix("    ")).collect();
+    let f = folder();
+    let mut counts = vec![42; 256 * 384];
+    counts[100 * 384 + 250] = 4_000_000;
+    f.put("lyso_0001.sfrm", wide_frame(256, 384, &counts));
+    let lines = example.iter().filter_map(|line| line.strip_prefix("$ "));
+    let said: String = lines.map(|line| format!("$ {line}\n{}", by_shell(&f, line))).collect();
+    assert_eq!(said.lines().collect::<Vec<&str>>(), example);
 }
