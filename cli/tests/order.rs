@@ -2,7 +2,7 @@
 mod common;
 use common::header::{Header, LENGTH};
 use common::random::Random;
-use common::{command, folder, frame, plain_frame, ran, state_of, unraw, wide_frame, Folder, State};
+use common::{command, faulty, folder, frame, plain_frame, ran, state_of, unraw, wide_frame, Folder, Ran, State};
 use std::collections::BTreeMap;
 use std::path::Path;
 use std::process::Command;
@@ -26,12 +26,17 @@ fn opened(form: &str) -> State {
     state_of(&f, "a")
 }
 
-/// A copy of holding `a`, in which these corrections are made one after the other.
+/// A copy of holding `a`, in which these corrections are made.
 fn corrected(start: &State, list: &[Correction]) -> Folder {
     let f = folder();
     f.put_state("a", start);
-    list.iter().for_each(|(pixel, count)| drop(f.done(&format!("correct a {pixel} {count}"))));
+    correct(&f, list);
     f
+}
+
+/// Makes these corrections of `a`, one after the other.
+fn correct(f: &Folder, list: &[Correction]) {
+    list.iter().for_each(|(pixel, count)| drop(f.done(&format!("correct a {pixel} {count}"))));
 }
 
 /// A copy in which the corrections of a table are made.
@@ -113,12 +118,12 @@ fn edge_list() -> Vec<Correction> {
 fn each_withdrawal_gives_back_the_frame_before_its_correction() {
     for start in FORMS.map(opened) {
         let f = corrected(&start, &[]);
-        let correct = |(pixel, count): &Correction| {
+        let frame_before = |correction: Correction| {
             let before = held(&f, "a");
-            f.done(&format!("correct a {pixel} {count}"));
+            correct(&f, &[correction]);
             before
         };
-        let frames: Vec<Held> = edge_list().iter().map(correct).collect();
+        let frames: Vec<Held> = edge_list().into_iter().map(frame_before).collect();
         let gives_back = |before: &Held| {
             f.done("withdraw a");
             held(&f, "a") == *before
@@ -149,7 +154,7 @@ fn a_table_that_names_a_pixel_twice_makes_both_rows_and_the_last_decides() {
     let f = corrected(&start, &[]);
     let said = "row 1: a: line 1: pixel 6 corrected from 66 to 90\nrow 2: a: line 2: pixel 9 corrected from 69 to 7\n\
                 row 3: a: line 3: pixel 6 corrected from 90 to 95\n3 rows: 3 made, ";
-    f.put("t.csv", "holding,row,column,count\na,1,2,90\na,2,1,7\na,1,2,95\n");
+    f.put("t.csv", "holding,pixel,row,column,count\na,6,,,90\na,,2,1,7\na,,1,2,95\n");
     assert!(f.done("correct --from t.csv").starts_with(said));
     assert!(f.done("why a --pixel 6").ends_with("by line 3\nline 3 correct 6 90 95\n"));
     must_have_one_frame(&f, &corrected(&start, &[(9, 7), (6, 95)]));
@@ -271,6 +276,29 @@ fn the_command_makes_room_on_the_way_and_the_frame_is_the_same() {
         f.done("withdraw a");
         let (held, opened) = (f.get("a.held"), start[0].as_ref().unwrap());
         assert!(held.starts_with(opened) && held[opened.len()..].iter().all(|byte| *byte == 0));
+    }
+}
+
+/// The longer correction, met by a full disk at this call, and what was said. None where there is no such call.
+fn disk_full(start: &State, at: u32) -> Option<(Folder, Ran)> {
+    let f = corrected(start, &[]);
+    let mut run = command();
+    run.args(["correct", "a", "5", "300"]).current_dir(f.path());
+    faulty(&f, run, "28", at).map(|ran| (f, ran))
+}
+
+#[test]
+fn where_the_disk_has_no_room_on_the_way_nothing_is_lost() {
+    let start = tight();
+    let whole = corrected(&start, &[SHORTER, LONGER]);
+    let runs = (1..).map_while(|at| disk_full(&start, at));
+    let held_back: Vec<(Folder, Ran)> = runs.filter(|(_, ran)| ran.err.contains("as it was before")).collect();
+    assert!(held_back.len() > 9, "only {}", held_back.len());
+    for (f, ran) in held_back {
+        assert!(ran.status == Some(3) && ran.err.contains("No space left on device"), "{ran:?}");
+        assert_eq!(state_of(&f, "a"), start);
+        correct(&f, &[SHORTER, LONGER]);
+        must_have_one_frame(&f, &whole);
     }
 }
 
