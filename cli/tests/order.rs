@@ -109,6 +109,15 @@ fn of_two_corrections_of_one_pixel_the_second_decides() {
     });
 }
 
+#[test]
+fn a_correction_to_the_count_that_is_there_leaves_the_frame_and_has_its_line() {
+    for start in FORMS.map(opened) {
+        let f = corrected(&start, &[(6, 66)]);
+        assert!(held(&f, "a") == as_opened(&start));
+        assert_eq!(listing(&f), "line 1 correct 6 66 66\nstanding 1\n");
+    }
+}
+
 /// Every edge in turn, at pixels some of which come again.
 fn edge_list() -> Vec<Correction> {
     EDGES.iter().enumerate().map(|(at, count)| (at * 5 % 7 * 2, *count)).collect()
