@@ -68,7 +68,7 @@ pub enum Command {
                             quayrudder open --below frames --form 1+2 -o archive"
     )]
     Open(Open),
-    /// Correct the count of one pixel of a holding, or those of a whole table
+    /// Correct the count of one pixel of a holding, or those of a whole table; the last correction of a pixel decides
     #[command(after_help = "Examples:\n  quayrudder correct lyso1 5,17 300\n  quayrudder correct lyso1 2577 300\n  \
                             quayrudder correct --from bad_pixels.csv")]
     Correct(Correct),
@@ -88,7 +88,7 @@ pub enum Command {
                       quayrudder keep lyso1 2029-01-01 --shorten\n  quayrudder keep --below archive 2031-11-02"
     )]
     Keep(Keep),
-    /// Take back the last correction or keep date that stands
+    /// Take back the last correction or keep date that stands, whoever made it
     #[command(
         mut_arg("names", holdings),
         after_help = "Examples:\n  quayrudder withdraw lyso1\n  quayrudder withdraw --names-from wrong.txt"
@@ -267,7 +267,7 @@ pub struct Correct {
     #[arg(required_unless_present = "from")]
     pub count: Option<u32>,
     /// Make the corrections of a table instead, - for standard input: CSV with a heading, or one JSON object a line, with
-    /// holding, pixel or row and column, and count
+    /// holding, pixel or row and column, and count. Of several rows for one pixel the last decides
     #[arg(long, value_name = "FILE", conflicts_with_all = ["name", "pixel", "count"])]
     pub from: Option<PathBuf>,
 }

@@ -2,7 +2,7 @@
 //!
 //! A library preloaded into the real command makes one call fail or ends the process there (fault.c).
 mod common;
-use common::{command_on, folder, plain_frame, ran, state_of, Folder, Ran, State, DUE, ENDINGS, TODAY};
+use common::{command_on, folder, plain_frame, ran, state_of, Folder, Ran, State, DUE, TODAY};
 use std::collections::BTreeSet;
 use std::fs;
 use std::process::Command;
@@ -64,10 +64,8 @@ fn compacted() -> Folder {
 fn before_again(words: &str, old: &State) -> Folder {
     let f = folder();
     f.put("a.sfrm", plain_frame());
-    for (ending, bytes) in ENDINGS.iter().zip(old) {
-        if let (false, Some(bytes)) = (words.starts_with("open"), bytes) {
-            f.put(&format!("a.{ending}"), bytes);
-        }
+    if !words.starts_with("open") {
+        f.put_state("a", old);
     }
     f
 }

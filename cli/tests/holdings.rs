@@ -1,14 +1,14 @@
 //! open, correct, amend, keep, withdraw, list, may-purge, verify, and refusals 16 to 27 and 31, by the real command.
 mod common;
 use common::header::{Header, LENGTH};
-use common::{folder, frame, old_frame, plain_frame, state_of, Folder, OLD_ENTRY};
+use common::{folder, frame, old_frame, plain_frame, state_of, unraw, Folder, OLD_ENTRY};
 use std::fs;
 use std::process::Stdio;
 
 /// The counts of holding `a`, as the held file expands.
 fn counts(f: &Folder) -> Vec<u32> {
     f.done("expand a.held -o counts.raw --force");
-    f.get("counts.raw").chunks(4).map(|b| u32::from_le_bytes(b.try_into().unwrap())).collect()
+    unraw(&f.get("counts.raw"))
 }
 
 #[test]

@@ -21,6 +21,8 @@ mod options;
 mod output;
 #[path = "../src/pixels.rs"]
 mod pixels;
+#[path = "common/random.rs"]
+mod random;
 #[path = "../src/redo.rs"]
 mod redo;
 #[path = "../src/refusals.rs"]
@@ -41,6 +43,7 @@ mod totals;
 mod walk;
 
 use digest::{Digest, State};
+use random::Random;
 use std::alloc::{GlobalAlloc, Layout, System};
 use std::cell::Cell;
 use std::path::Path;
@@ -78,22 +81,6 @@ unsafe impl GlobalAlloc for Noting {
 
 #[global_allocator]
 static ALLOCATOR: Noting = Noting;
-
-/// The numbers of xorshift.
-struct Random(u64);
-
-impl Random {
-    fn next(&mut self) -> u64 {
-        self.0 ^= self.0 << 13;
-        self.0 ^= self.0 >> 7;
-        self.0 ^= self.0 << 17;
-        self.0
-    }
-
-    fn below(&mut self, limit: usize) -> usize {
-        (self.next() % limit.max(1) as u64) as usize
-    }
-}
 
 /// Texts that parsers stumble over.
 const WORDS: [&[u8]; 14] = [

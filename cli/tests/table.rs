@@ -156,10 +156,7 @@ fn before(old: Option<&State>) -> Folder {
             f.hold("1+2", 0);
             f.done("correct a 9 9");
         }
-        Some(old) => ["held", "ledger", "sha256"]
-            .iter()
-            .zip(old)
-            .for_each(|(ending, bytes)| f.put(&format!("a.{ending}"), bytes.as_ref().unwrap())),
+        Some(old) => f.put_state("a", old),
     }
     f
 }

@@ -100,7 +100,18 @@ class Holding:
         return cls(name)
 
     def correct(self, pixel: int | tuple[int, int], count: int) -> Line:
-        """Gives a pixel, by its number or its row and column, another count. The answer is the ledger's new line."""
+        """Gives a pixel, by its number or its row and column, another count. The answer is the ledger's new line.
+
+        The last correction of a pixel decides. Corrections of different pixels leave the same frame in either order, and other ledgers.
+
+        >>> one, two = (Holding.open("example.sfrm", name, form="1+2") for name in ("lyso6", "lyso7"))
+        >>> one.correct((100, 250), 90).number, one.correct(7, 12).number
+        (1, 2)
+        >>> two.correct(7, 12).number, two.correct((100, 250), 95).number, two.correct((100, 250), 90).number
+        (1, 2, 3)
+        >>> bool((one.read().pixels == two.read().pixels).all())
+        True
+        """
         return _line(self._run("correct", _place(pixel), str(count))["appended"])
 
     def amend(self, count: int) -> Line:

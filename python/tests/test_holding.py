@@ -33,8 +33,12 @@ class Holdings(unittest.TestCase):
         self.assertEqual(int(self.holding.read().pixels[100, 250]), 4_000_000)
         self.assertEqual([line.kind for line in self.holding.list()], ["correct", "withdraw"])
 
+    def other(self):
+        """A second holding of the same frame."""
+        return Holding.open("example.sfrm", self.holding.name + "b", form="1+2")
+
     def test_the_command_gives_the_same_files(self):
-        other = Holding.open("example.sfrm", self.holding.name + "b", form="1+2")
+        other = self.other()
         self.holding.correct(5, 7), self.holding.keep("2031-11-02"), self.holding.withdraw(), self.holding.amend(8)
         for command, *words in (["correct", "5", "7"], ["keep", "2031-11-02"], ["withdraw"], ["amend", "8"]):
             subprocess.run([places.command(), command, other.name, *words], check=True, capture_output=True)
@@ -43,6 +47,19 @@ class Holdings(unittest.TestCase):
 
     def files(self, holding):
         return [pathlib.Path(holding.name + ending).read_bytes() for ending in (".held", ".ledger")]
+
+    def test_the_order_of_corrections_is_in_the_ledger_and_not_in_the_frame(self):
+        opened, other = self.files(self.holding)[0], self.other()
+        lines = [self.holding.correct(pixel, count) for pixel, count in ((5, 65_535), (38650, 90))]
+        later = [other.correct(pixel, count) for pixel, count in ((38650, 0), (38650, 90), (5, 65_535))]
+        (held, ledger), (other_held, other_ledger) = self.files(self.holding), self.files(other)
+        self.assertTrue(opened != held == other_held and ledger != other_ledger)
+        self.assertTrue((self.holding.read().pixels == other.read().pixels).all())
+        self.assertEqual((self.holding.why_pixel(38650), other.why_pixel(38650)), (lines[1], later[1]))
+        self.assertEqual((self.holding.withdraw(), other.withdraw()), (lines[1], later[2]))
+        self.assertNotEqual(self.files(self.holding)[0], self.files(other)[0])
+        self.holding.withdraw(), other.withdraw(), other.withdraw()
+        self.assertTrue(self.files(self.holding)[0] == self.files(other)[0] == opened)
 
     def test_refusals_have_the_library_s_numbers(self):
         self.assertEqual(refused(self.holding.withdraw).number, 22)

@@ -1,6 +1,7 @@
 //! What the tests share: a folder of their own, the real command run in it, and frames made by hand.
 #![allow(dead_code)]
 pub mod header;
+pub mod random;
 
 use chrono::NaiveDate;
 use header::Header;
@@ -159,6 +160,12 @@ impl Folder {
         entries.map(|entry| entry.unwrap().file_name().to_string_lossy().into_owned()).collect()
     }
 
+    /// Puts the files of a holding here as they were.
+    pub fn put_state(&self, name: &str, state: &State) {
+        let files = ENDINGS.iter().zip(state).filter_map(|(ending, bytes)| Some((ending, bytes.as_ref()?)));
+        files.for_each(|(ending, bytes)| self.put(&format!("{name}.{ending}"), bytes));
+    }
+
     /// A holding from before there were sums.
     pub fn without_sums(&self, name: &str) {
         let _ = fs::remove_file(self.join(&format!("{name}.sha256")));
@@ -203,9 +210,19 @@ pub fn frame(header: Header, rest: &[u8]) -> Vec<u8> {
     [header.bytes(), rest.to_vec()].concat()
 }
 
+/// A frame of these counts, four bytes each.
+pub fn wide_frame(rows: u32, columns: u32, counts: &[u32]) -> Vec<u8> {
+    frame(Header::new(rows, columns).line(39, "NPIXELB:4 0"), &raw(counts))
+}
+
 /// Counts as `expand` writes them as .raw.
 pub fn raw(counts: &[u32]) -> Vec<u8> {
     counts.iter().flat_map(|count| count.to_le_bytes()).collect()
+}
+
+/// The counts of such bytes.
+pub fn unraw(bytes: &[u8]) -> Vec<u32> {
+    bytes.chunks_exact(4).map(|count| u32::from_le_bytes(count.try_into().unwrap())).collect()
 }
 
 /// One row with entries in every table, which reads as 35 332 70032 30.
