@@ -2,9 +2,10 @@
 use crate::case::{Call, Step};
 use crate::compare::{digest, Run};
 use crate::frame::{self, LINE, NAME};
-use crate::held_trial::{base, form_name, held_words, joined, Trial};
+use crate::held_trial::{base, form_name, held_words, joined, Damage, Trial};
 use crate::held_trial::{EDGES, FORMS, OPENED, RESPELLED};
-use crate::lettered::{self, calls, trial};
+use crate::ledger::BYTES;
+use crate::lettered::{self, times, trial};
 use crate::order_claims::ANEW;
 use crate::written_down::{self, both};
 
@@ -135,3 +136,171 @@ one pixel 100 times: spare=3200: 2=9*50 2=1000*49 2=500 / 2=500 / 2=70000*99 2=5
 100 corrections and 100 withdrawals: spare=3200 ledger=k: 2=9*50 1=1000*50 w*100 / -
 100 and 99 withdrawals: spare=3200: 2=9 1=1000*99 w*99 / 2=9
 two pixels in turn: : 0=5 1=600 0=6 1=700 0=7 1=800 0=8 1=900 / 1=900 0=8 / 0=5 0=6 0=7 0=8 1=600 1=700 1=800 1=900";
+
+/// Each number behind a plus sign with the baseline added.
+fn raised(text: &str, base: u32) -> String {
+    let mut parts = text.split('+');
+    let mut raised = parts.next().unwrap_or("").to_string();
+    for part in parts {
+        let digits = part.bytes().take_while(u8::is_ascii_digit).count();
+        let number: u64 = part[..digits].parse().unwrap_or(0);
+        raised += &(u64::from(base) + number).to_string();
+        raised += &part[digits..];
+    }
+    raised
+}
+
+/// The words of a text, each as often as it is meant.
+fn repeated<'a>(words: impl Iterator<Item = &'a str>) -> Vec<&'a str> {
+    let each = |word: &'a str| {
+        let (word, times) = times(word);
+        std::iter::repeat_n(word, times)
+    };
+    words.flat_map(each).collect()
+}
+
+fn form(name: &str) -> (u32, u32) {
+    let named = FORMS.into_iter().find(|form| form_name(*form) == name);
+    named.unwrap_or_else(|| panic!("no form {name}"))
+}
+
+fn damage(name: &str) -> Damage {
+    match name {
+        "respelled" => RESPELLED,
+        "behind" => |held| held.last_mut().into_iter().for_each(|byte| *byte = 1),
+        "padding" => |held| held[7699] = 1,
+        "short" => |held| held.truncate(held.len() - 1),
+        "none" => Vec::clear,
+        other => panic!("no damage {other}"),
+    }
+}
+
+/// Changes what a row starts from by one word.
+fn set(trial: &mut Trial, word: &str) {
+    let (what, value) = word.split_once('=').unwrap_or((word, ""));
+    let number = || value.parse().unwrap_or(0);
+    match what {
+        "of" => {
+            let text = raised(value, base(trial.form));
+            let counts = repeated(text.split(','));
+            let count = |text: &&str| text.parse().ok();
+            trial.pixels = counts.iter().filter_map(count).collect();
+        }
+        "form" => trial.form = form(value),
+        "held" => trial.damage = damage(value),
+        "room" => trial.room = number(),
+        "spare" => trial.spare = number(),
+        "beyond" => trial.beyond = number() as u64,
+        _ => assert!(what == "ledger", "no word {word}"),
+    }
+}
+
+/// The calls of a run, with what ends it.
+fn run_steps(words: &str) -> Vec<Step> {
+    let words = match words {
+        "-" => Vec::new(),
+        words => repeated(words.split_whitespace()),
+    };
+    [lettered::steps(&words.join(" ")), vec![ANEW]].concat()
+}
+
+/// What a row starts from, and its runs.
+fn started((setup, runs): (&str, &str), form: (u32, u32)) -> Trial {
+    let mut words = setup.split_whitespace();
+    let ledger = words.clone().find_map(|word| word.strip_prefix("ledger="));
+    let mut trial = trial(Call::Orders, ledger.unwrap_or(""));
+    (trial.form, trial.pixels) = (form, OPENED.to_vec());
+    (trial.room, trial.spare) = (64, 64 * BYTES);
+    words.by_ref().for_each(|word| set(&mut trial, word));
+    let runs = raised(runs, base(trial.form));
+    trial.steps = runs.split(" / ").flat_map(run_steps).collect();
+    trial.steps.pop();
+    trial
+}
+
+/// The refusals of a run's calls, those of a long one in short if they are the same.
+fn refusals(run: &Run) -> String {
+    let refusals: Vec<u64> = run
+        .outcome
+        .met
+        .iter()
+        .map(|(_, refusal)| *refusal)
+        .collect();
+    match refusals[..] {
+        [] => "no calls".to_string(),
+        [first, ..] if refusals.len() > 12 && refusals.iter().all(|refusal| *refusal == first) => {
+            format!("{first} for each of {}", refusals.len())
+        }
+        _ => joined(refusals.into_iter()),
+    }
+}
+
+fn is_accepted(run: &Run) -> bool {
+    run.outcome.met.iter().all(|(_, refusal)| *refusal == 0)
+}
+
+/// The counts held, where the frame ends, and a digest of NOVERFL and of all that is behind the header.
+fn held(run: &Run) -> String {
+    let held = &run.outcome.after.buffer;
+    let (Some((words, _)), Ok(header)) = (held_words(held), frame::read_header(held)) else {
+        return "no frame".to_string();
+    };
+    let counts = &held[20 * LINE + NAME..21 * LINE];
+    let digest = digest(&[counts, &held[header.length..]].concat());
+    format!("{words}, {digest:016x}")
+}
+
+/// A later run beside the first.
+fn beside(first: &Run, run: &Run) -> String {
+    let compared = match is_accepted(first) && is_accepted(run) {
+        true => "",
+        false => "not compared, ",
+    };
+    let bytes = match first.outcome.after.buffer == run.outcome.after.buffer {
+        true => "same bytes".to_string(),
+        false => format!("other bytes, {}", held(run)),
+    };
+    format!("{} -> {compared}{bytes}", refusals(run))
+}
+
+fn row_line(row: &str, form: (u32, u32)) -> String {
+    let parts: Vec<&str> = row.splitn(3, ": ").collect();
+    let [name, setup, runs] = parts[..] else {
+        panic!("no row: {row}");
+    };
+    let (outcome, note) = both(&started((setup, runs), form).case());
+    let [_, first, later @ ..] = &outcome.runs[..] else {
+        panic!("no runs: {row}");
+    };
+    let later = later.iter().map(|run| format!("; {}", beside(first, run)));
+    let later: String = later.collect();
+    format!(
+        "{name}: {} -> {}{later}{note}",
+        refusals(first),
+        held(first)
+    )
+}
+
+/// The rows of all, in one form.
+fn form_lines(form: (u32, u32)) -> impl Iterator<Item = String> {
+    let named = move |row: &str| format!("form {}, {}", form_name(form), row_line(row, form));
+    EACH_FORM.lines().map(named)
+}
+
+fn edge_lines(row: &'static str) -> impl Iterator<Item = String> {
+    EDGES
+        .into_iter()
+        .map(move |edge| row_line(&row.replace('E', &edge.to_string()), (1, 1)))
+}
+
+fn lines() -> impl Iterator<Item = String> {
+    let forms = FORMS.into_iter().flat_map(form_lines);
+    let edges = EACH_EDGE.into_iter().flat_map(edge_lines);
+    let rows = [TABLES, LEDGERS, REFUSED, LONG].into_iter();
+    let rows = rows.flat_map(str::lines).map(|row| row_line(row, (1, 1)));
+    forms.chain(edges).chain(rows)
+}
+
+pub fn run() -> bool {
+    written_down::run("order", EXPECTED, lines())
+}
