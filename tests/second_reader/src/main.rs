@@ -46,8 +46,8 @@ use std::time::{Duration, Instant, SystemTime, UNIX_EPOCH};
 use tally::Tally;
 
 const USAGE: &str =
-    "second_reader compare [--seed N] [--seconds S] [--fault 1..8] [--case FILE] [--trace 1]\n\
-                     second_reader replay FILE [--fault 1..8]\n\
+    "second_reader compare [--seed N] [--seconds S] [--fault 1..9] [--case FILE] [--trace 1]\n\
+                     second_reader replay FILE [--fault 1..9]\n\
                      second_reader mar-trials\n\
                      second_reader dtrek-trials\n\
                      second_reader amend-trials\n\
