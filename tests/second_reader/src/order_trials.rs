@@ -67,14 +67,17 @@ two pixels over a line with another count than the pixel has: ledger=a: 2=5 1=60
 withdrawn down to a line with another count than the pixel has: ledger=a: 2=5 w / - / 1=5 2=1000 w w
 two pixels over a keep line: ledger=ak of=400,401,1000,403: 0=5 2=600 / 2=600 0=5
 one pixel over a keep line: ledger=k: 0=70000 0=5 / 0=5
+the most over a keep line: ledger=ak of=400,401,1000,403: 0=4294967295 2=16777217 / 2=16777217 0=4294967295 / 2=16777217 0=4294967295 1=0 w
 withdrawn down to a keep line: ledger=akl of=400,401,1000,403: 0=5 2=6 w w / - / 2=402 w
 over withdrawn lines: ledger=aw: 2=1000 0=5 / 0=5 2=1000 / 2=1000 w 0=5 2=1000
 over lines withdrawn around each other: ledger=akbwww: 1=9 2=1000 / 2=1000 1=9
+the most over withdrawn lines: ledger=aw: 2=70000 0=4294967295 / 0=4294967295 2=70000 / 0=5 w 0=4294967295 2=70000
 withdrawn down to withdrawn lines: ledger=bakww of=400,9,402,403: 1=401 2=1000 1=5 w w w / -
 over an amended line: ledger=awe of=400,401,500,403: 2=1000 2=402 / 2=402
 over lines of pixels that the frame has not: ledger=xf: 0=5 3=6 / 3=6 0=5
 over a line with equal counts: ledger=d: 0=400 0=5 / 0=5
 over 30 lines: ledger=akblwwakblwwakblwwakblwwakblww: 1=8 2=7 / 2=7 1=8
+the most over 30 lines: ledger=akblwwakblwwakblwwakblwwakblww: 1=4294967295 2=16777216 / 2=16777216 1=4294967295 / 2=5 w 2=16777216 1=4294967295
 lines behind those claimed: ledger=k|clw: 0=5 1=600 / 1=600 0=5
 no line free: ledger=k spare=0: 0=5 1=600 / 1=600 0=5
 a line free less a byte: spare=15: 0=5 1=600 / 1=600 0=5
@@ -122,6 +125,7 @@ a withdrawal more than there are lines: : 0=5 w w / -
 a withdrawal more than corrections, of a line with another count: ledger=a: 0=5 w w / -
 a withdrawal more than corrections, of a false old count: ledger=ec of=400,401,555,403: 0=5 w w / -
 the counts that the pixels have: : 0=400 1=401 / 1=401 0=400 / - / 0=400 w
+the counts that the pixels have, at edges: of=255,0,+255,+65535: 0=255 1=0 2=+255 3=+65535 / 3=+65535 2=+255 1=0 0=255 / - / 0=255 1=0 w w
 one pixel's own count between others: : 0=600 0=400 1=5 / 1=5 / 1=5 0=400
 another last count of one pixel: : 0=5 0=6 / 0=6 0=5
 another count of one pixel: : 0=5 1=600 / 1=601 0=5
