@@ -322,6 +322,17 @@ fn an_order_that_matters_breaks_the_claims() {
 }
 
 #[test]
+fn bytes_that_no_count_shows_break_the_claim() {
+    let [a, b] = [corrected(0, 1), corrected(1, 2)];
+    let touched = |step: &Step, out: &mut Outcome| {
+        out.after.buffer[250] ^= u8::from((out.after.lines, step.pixel) == (5, 0));
+        compare::second_step(step, out)
+    };
+    let found = broken_orders(&[&[a, b], &[b, a]], touched);
+    assert_eq!(found, ["two pixels, in either order"]);
+}
+
+#[test]
 fn runs_that_are_not_compared() {
     let [a, b, c] = [corrected(0, 1), corrected(1, 2), corrected(0, 3)];
     let pairs = |runs: [&[Step]; 2]| {
@@ -337,6 +348,15 @@ fn runs_that_are_not_compared() {
     assert_eq!(pairs([&[corrected(2, 5)], &[corrected(0, 5)]]), [[0, 0]]);
     let full = played(&[&[a, b], &[b, a]], 1, wrong_at(5, 0));
     assert_eq!(order_claims::broken(&full), [""; 0]);
+    let full_behind_b = |step: &Step, out: &mut Outcome| {
+        if (out.after.lines, step.pixel) == (4, 1) {
+            out.after.ledger.truncate(5 * 16);
+        }
+        compare::second_step(step, out)
+    };
+    let either = [[&[a, b], &[b, a]], [&[b, a], &[a, b]]];
+    let found = either.map(|runs| broken_orders(&runs.map(|run| &run[..]), full_behind_b));
+    assert_eq!(found, [[""; 0]; 2]);
 }
 
 #[test]
