@@ -139,7 +139,7 @@ why-trials: second-reader
 order-trials: second-reader
 	$(SECOND_READER) order-trials
 
-# Ten deliberate faults in copies of the library, which the comparison has to find.
+# Eleven deliberate faults in copies of the library, which the comparison has to find.
 faults: deps-rust
 	tests/second_reader/faults.sh
 
