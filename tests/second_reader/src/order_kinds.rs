@@ -181,14 +181,19 @@ const FORMS: [(&str, (u64, u64)); 9] = [
 
 /// Why runs were not compared.
 const REFUSED: [(&str, u64); 6] = [
-    ("not for 17", 17),
-    ("not for 18", 18),
-    ("not for 19", 19),
-    ("not for 20", 20),
-    ("not for 21", 21),
-    ("not for 24", 24),
+    ("refused with 17", 17),
+    ("refused with 18", 18),
+    ("refused with 19", 19),
+    ("refused with 20", 20),
+    ("refused with 21", 21),
+    ("refused with 24", 24),
 ];
-const ONE_ORDER: &str = "not for 18 in one order alone";
+const ONE_ORDER: &str = "refused with 18 in one order alone";
+
+/// What runs are counted as, and their kind.
+pub type Counted = (&'static str, &'static str);
+pub const COMPARED: &str = "runs compared";
+const NOT_COMPARED: &str = "runs not compared";
 
 /// The names of those rows of a table that are wanted.
 fn named<T>(
@@ -199,17 +204,18 @@ fn named<T>(
     rows.map(|(name, _)| *name)
 }
 
-/// The names of all kinds, the claims first.
-pub fn names() -> impl Iterator<Item = &'static str> {
+/// All kinds, the claims first.
+pub fn all() -> impl Iterator<Item = Counted> {
     let kinds = named(&KINDS, |_| true).chain(named(&TABLES, |_| true));
     let forms = named(&EDGES, |_| true).chain(named(&FORMS, |_| true));
-    let refused = named(&REFUSED, |_| true).chain([ONE_ORDER]);
     let compared = order_claims::claims().chain(kinds).chain(forms);
-    compared.chain(refused)
+    let refused = named(&REFUSED, |_| true).chain([ONE_ORDER]);
+    let compared = compared.map(|name| (COMPARED, name));
+    compared.chain(refused.map(|name| (NOT_COMPARED, name)))
 }
 
 /// The kinds of two runs that were compared, or that were not.
-pub fn of(start: Option<&Start>, pair: &Pair) -> Vec<&'static str> {
+pub fn of(start: Option<&Start>, pair: &Pair) -> Vec<Counted> {
     let refusals = pair.refusals();
     let Some(start) = start.filter(|_| refusals == [0, 0]) else {
         return refused(refusals);
@@ -221,12 +227,14 @@ pub fn of(start: Option<&Start>, pair: &Pair) -> Vec<&'static str> {
     let edges = named(&EDGES, |above| start.is_made(*above, steps));
     let form = named(&FORMS, |form| *form == held);
     let all = kinds.chain(tables).chain(edges).chain(form);
-    all.chain([pair.claim()]).collect()
+    let all = all.chain([pair.claim()]);
+    all.map(|name| (COMPARED, name)).collect()
 }
 
-fn refused(refusals: [u64; 2]) -> Vec<&'static str> {
+fn refused(refusals: [u64; 2]) -> Vec<Counted> {
     let first = refusals.into_iter().find(|refusal| *refusal != 0);
     let names = named(&REFUSED, |refusal| Some(*refusal) == first);
     let one_order = refusals == [0, 18] || refusals == [18, 0];
-    names.chain(one_order.then_some(ONE_ORDER)).collect()
+    let names = names.chain(one_order.then_some(ONE_ORDER));
+    names.map(|name| (NOT_COMPARED, name)).collect()
 }

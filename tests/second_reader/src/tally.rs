@@ -198,19 +198,18 @@ fn is_asked_compacted(case: &Case, outcome: &Outcome) -> bool {
 
 const COMPACTING: &str = "ledgers compacted";
 const ASKING: &str = "ledgers asked";
-const COMPARING: &str = "runs compared";
 /// What lists of calls are counted by.
 const ROOM_USED: (&str, &str) = (COMPACTING, "full, and the freed room used at once");
 const ASKED_COMPACTED: (&str, &str) = (ASKING, "compacted");
-const LIST_SHUFFLED: (&str, &str) = (COMPARING, "of a list of calls");
+const LIST_SHUFFLED: (&str, &str) = (order_kinds::COMPARED, "of a list of calls");
 
 /// Every kind of ledger and of runs that has to be met.
 fn ledgers() -> impl Iterator<Item = (&'static str, &'static str)> {
     let compacted = COMPACTED.iter().map(|(name, _)| (COMPACTING, *name));
     let asked = ASKED.iter().map(|(name, _)| (ASKING, *name));
-    let runs = order_kinds::names().map(|name| (COMPARING, name));
     let lists = [ROOM_USED, ASKED_COMPACTED, LIST_SHUFFLED];
-    compacted.chain(asked).chain(runs).chain(lists)
+    let ledgers = compacted.chain(asked).chain(lists);
+    ledgers.chain(order_kinds::all())
 }
 
 impl Tally {
@@ -272,7 +271,7 @@ impl Tally {
             self.add_ledger(LIST_SHUFFLED, listed);
             kinds
                 .into_iter()
-                .for_each(|name| self.add_ledger((COMPARING, name), true));
+                .for_each(|kind| self.add_ledger(kind, true));
         }
     }
 

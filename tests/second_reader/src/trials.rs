@@ -404,7 +404,8 @@ fn kinds_of_compared_runs() {
         change(&mut case);
         let runs = vec![vec![a, b], vec![b, a]];
         let runs = order_claims::play(&case, runs, compare::second_step);
-        order_kinds::of(Start::of(&runs).as_ref(), &order_claims::pairs(&runs)[0])
+        let kinds = order_kinds::of(Start::of(&runs).as_ref(), &order_claims::pairs(&runs)[0]);
+        kinds.into_iter().map(|(_, name)| name).collect::<Vec<_>>()
     };
     let plain = [
         "standing lines",
@@ -422,7 +423,10 @@ fn kinds_of_compared_runs() {
     assert_eq!(kinds(old)[1], "a false old count on top");
     let new = |case: &mut Case| case.ledger[3 * 16 + 12] ^= 1;
     assert_eq!(kinds(new)[1], "another count on top than is held");
-    assert_eq!(kinds(|case| case.ledger.truncate(5 * 16)), ["not for 21"]);
+    assert_eq!(
+        kinds(|case| case.ledger.truncate(5 * 16)),
+        ["refused with 21"]
+    );
     let free = |case: &mut Case| case.ledger.resize(11 * 16, 1);
     assert!(kinds(free).contains(&"other bytes than 0 behind the lines"));
 }
