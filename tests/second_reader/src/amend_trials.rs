@@ -2,7 +2,7 @@
 use crate::case::{Call, Step};
 use crate::compare::Outcome;
 use crate::held_trial::{after_words, correction, form_name, joined, keep, list_case};
-use crate::held_trial::{Change, Deed, Trial, ACCEPTED, DATE, FORMS, OPENED};
+use crate::held_trial::{Change, Deed, Trial, ACCEPTED, DATE, EDGES, FORMS, OPENED};
 use crate::held_trial::{BAD, KEEP, RESPELLED, WITHDRAWAL};
 use crate::ledger::BYTES;
 use crate::written_down::{self, both};
@@ -41,11 +41,11 @@ const COUNTS: [(&str, Change); 15] = [
 
 const LEDGERS: [(&str, Change); 14] = [
     ("of the first pixel", |t| {
-        t.pixels = OPENED;
+        t.pixels = OPENED.to_vec();
         t.last(0, 400, 70000);
     }),
     ("of the last pixel", |t| {
-        t.pixels = OPENED;
+        t.pixels = OPENED.to_vec();
         t.last(3, 403, 9);
     }),
     ("of an amend", |t| {
@@ -297,11 +297,6 @@ fn between_lines((name, change): &(&str, Change)) -> [String; 2] {
         answer_line(&format!("{name}, withdrawn alone"), &trial),
     ]
 }
-
-/// Counts at which a pixel is stored another way, in one form or another.
-const EDGES: [u32; 12] = [
-    0, 254, 255, 256, 300, 301, 555, 65534, 65535, 65834, 65835, 4294967295,
-];
 
 /// A correction amended to each of these counts, in a buffer with room enough.
 fn form_lines(form: (u32, u32)) -> impl Iterator<Item = String> {

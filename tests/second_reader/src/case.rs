@@ -1,4 +1,4 @@
-//! A case: one call, a list of calls from an opening, or further calls with and without compaction, with all that is lent to it.
+//! A case: one call, a list of calls from an opening, further calls with and without compaction, or runs of corrections, with all that is lent to it.
 use crate::ledger::BYTES;
 use std::fmt::Write;
 use std::rc::Rc;
@@ -25,11 +25,13 @@ pub enum Call {
     DtrekItem,
     /// Further calls on a held frame and its ledger: after a compaction, and without one.
     Further,
+    /// Runs of corrections and withdrawals, each on the same held frame and ledger. As a step it makes no call and starts the next run.
+    Orders,
     /// A list of calls.
     List,
 }
 
-pub const CALLS: [(Call, &str); 20] = [
+pub const CALLS: [(Call, &str); 21] = [
     (Call::Read, "read"),
     (Call::Write, "write"),
     (Call::Open, "open"),
@@ -49,6 +51,7 @@ pub const CALLS: [(Call, &str); 20] = [
     (Call::DtrekHeader, "dtrek head"),
     (Call::DtrekItem, "dtrek item"),
     (Call::Further, "further"),
+    (Call::Orders, "orders"),
     (Call::List, "list"),
 ];
 
@@ -85,7 +88,7 @@ pub struct Case {
     pub buffer: Vec<u8>,
     pub ledger: Vec<u8>,
     pub lines: u64,
-    /// The calls of a list after the opening, or the further calls.
+    /// The calls of a list after the opening, the further calls, or the runs.
     pub steps: Vec<Step>,
 }
 

@@ -8,7 +8,7 @@ use crate::library;
 use crate::listing;
 use crate::mar::Order;
 use crate::model::Model;
-use crate::{dtrek, frame, held, mar, why_claims};
+use crate::{dtrek, frame, held, mar, order_claims, why_claims};
 
 /// The calls that answer with a number of lines.
 const CHANGE_LINES: [Call; 5] = [
@@ -30,11 +30,20 @@ pub struct Outcome {
     pub named: Vec<Option<Vec<u8>>>,
     pub after: Case,
     respected: bool,
-    /// What A8 and A11 say and was found otherwise. The second reader has nothing there, so that a library that has something differs.
+    /// Runs of corrections and withdrawals from one held frame and ledger, the first of no calls.
+    pub runs: Vec<Run>,
+    /// What A7, A8 and A11 say and was found otherwise. The second reader has nothing there, so that a library that has something differs.
     pub broken: Vec<&'static str>,
 }
 
-fn digest(bytes: &[u8]) -> u64 {
+/// Calls, and what they gave.
+#[derive(Debug, PartialEq, Eq)]
+pub struct Run {
+    pub steps: Vec<Step>,
+    pub outcome: Outcome,
+}
+
+pub fn digest(bytes: &[u8]) -> u64 {
     let step = |sum: u64, byte: &u8| (sum ^ u64::from(*byte)).wrapping_mul(0x100_0000_01B3);
     bytes.iter().fold(0xCBF2_9CE4_8422_2325, step)
 }
@@ -48,6 +57,7 @@ impl Outcome {
             named: Vec::new(),
             after: case.clone(),
             respected: true,
+            runs: Vec::new(),
             broken: Vec::new(),
         }
     }
@@ -163,6 +173,7 @@ fn library_step(fault: Fault, step: &Step, out: &mut Outcome) -> u64 {
         Call::DtrekRead => fault.dtrek_read(&case.frame, &mut case.pixels),
         Call::DtrekHeader => library::dtrek_header(&case.frame),
         Call::DtrekItem => library::dtrek_item(&case.frame, step.pixel),
+        Call::Orders => (vec![0], true),
     };
     let call = counted(step.call);
     if CHANGE_LINES.contains(&call) {
@@ -195,7 +206,12 @@ pub fn by_library(fault: Fault, case: &Case) -> Outcome {
     let mut out = Outcome::new(case);
     let refusal = call(&case.step, &mut out);
     match case.step.call {
-        Call::List if refusal == 0 => out.make(&case.steps, listed),
+        Call::List if refusal == 0 => {
+            let opened = order_claims::start(&out.after);
+            out.make(&case.steps, listed);
+            out.runs = order_claims::of_list(case, opened, &out.after, alone);
+        }
+        Call::Orders => out.runs = order_claims::play(case, order_claims::runs(case), alone),
         Call::Further if refusal == 0 => {
             let without = further::make(case, &mut out, call);
             let agree = further::agree(&without, &out);
@@ -204,6 +220,7 @@ pub fn by_library(fault: Fault, case: &Case) -> Outcome {
         }
         _ => {}
     }
+    out.broken.extend(order_claims::broken(&out.runs));
     out
 }
 
@@ -355,6 +372,7 @@ pub fn second_step(step: &Step, out: &mut Outcome) -> u64 {
         Call::DtrekRead => read_answer(dtrek::read(&case.frame, &mut case.pixels)),
         Call::DtrekHeader => dtrek_header_answer(&case.frame),
         Call::DtrekItem => dtrek_item_answer(&case.frame, step.pixel),
+        Call::Orders => vec![0],
     };
     out.note(counted(step.call), answer)
 }
@@ -420,7 +438,12 @@ pub fn by_second_reader(case: &Case) -> Outcome {
     let mut out = Outcome::new(case);
     let refusal = second_step(&case.step, &mut out);
     match case.step.call {
-        Call::List if refusal == 0 => by_model(case, &mut out),
+        Call::List if refusal == 0 => {
+            let opened = order_claims::start(&out.after);
+            by_model(case, &mut out);
+            out.runs = order_claims::of_list(case, opened, &out.after, second_step);
+        }
+        Call::Orders => out.runs = order_claims::play(case, order_claims::runs(case), second_step),
         Call::Further if refusal == 0 => {
             let without = further::make(case, &mut out, second_step);
             out.join(without);
@@ -500,12 +523,18 @@ pub fn describe(fault: Fault, case: &Case) -> String {
     let (left, right) = (by_library(fault, case), by_second_reader(case));
     let first = |a: &[u8], b: &[u8]| a.iter().zip(b).position(|(a, b)| a != b);
     let pixel = |a: &[u32], b: &[u32]| a.iter().zip(b).position(|(a, b)| a != b);
+    let runs = |out: &Outcome| -> Vec<Vec<(Call, u64)>> {
+        let met = |run: &Run| run.outcome.met.clone();
+        out.runs.iter().map(met).collect()
+    };
     format!(
-        "library {:?}\nsecond  {:?}\nguards and read-only bytes respected: {}\n\
+        "library {:?}\nsecond  {:?}\nruns by library {:?}\nruns by second  {:?}\nguards and read-only bytes respected: {}\n\
          claims broken: {:?}\n\
          first different byte of buffer {:?}, of ledger {:?}, first different pixel {:?}\n",
         left.answers,
         right.answers,
+        runs(&left),
+        runs(&right),
         left.respected,
         left.broken,
         first(&left.after.buffer, &right.after.buffer),

@@ -1,7 +1,7 @@
 //! Deliberate faults laid over the library, to see that the comparison finds them.
 use crate::dtrek;
 use crate::frame::read_header;
-use crate::ledger::{self, BYTES};
+use crate::ledger::{self, Entry, BYTES};
 use crate::library::{self, Answer};
 use crate::mar::Order;
 
@@ -24,6 +24,8 @@ pub enum Fault {
     Freed,
     /// Of the standing keep lines the one with the latest date is named, and not the last.
     Latest,
+    /// Where the line before is a correction of a later pixel, the two-byte entries of both stand in the order of the lines, and not of the pixels.
+    Entries,
 }
 
 impl Fault {
@@ -38,6 +40,7 @@ impl Fault {
             Fault::Between,
             Fault::Freed,
             Fault::Latest,
+            Fault::Entries,
         ];
         faults.get(number as usize).copied()
     }
@@ -76,7 +79,11 @@ impl Fault {
                 return (vec![24, lines], respected);
             }
         }
-        library::correct(held, ledger, lines, pixel, count)
+        let answer = library::correct(held, ledger, lines, pixel, count);
+        if self == Fault::Entries && answer.0[0] == 0 && lines > 0 {
+            exchange_entries(held, ledger, lines as usize, pixel as usize);
+        }
+        answer
     }
 
     pub fn amend(self, held: &mut [u8], ledger: &mut [u8], lines: u64, count: u32) -> Answer {
@@ -136,6 +143,32 @@ impl Fault {
         }
         answer
     }
+}
+
+/// Exchanges the two-byte entry of the pixel just corrected with that of the line before, if that one corrects a later pixel and both have such entries.
+fn exchange_entries(held: &mut [u8], ledger: &[u8], lines: usize, pixel: usize) {
+    let before = Entry::parse(&ledger[(lines - 1) * BYTES..lines * BYTES]);
+    let Some(Entry::Correction { pixel: later, .. }) = before else {
+        return;
+    };
+    let later = later as usize;
+    let Ok(header) = read_header(held) else {
+        return;
+    };
+    let image = &held[header.length..header.length + header.pixels()];
+    let is_marked = |place: usize| image.get(place) == Some(&255);
+    if header.width != 1 || later <= pixel || !is_marked(pixel) || !is_marked(later) {
+        return;
+    }
+    let underflow = header.underflow_width * header.underflows.unwrap_or(0);
+    let table = header.length + header.pixels() + (underflow as usize).div_ceil(16) * 16;
+    let entry = |place: usize| {
+        let marked = image[..place].iter().filter(|stored| **stored == 255);
+        table + 2 * marked.count()
+    };
+    let (one, other) = (entry(pixel), entry(later));
+    held.swap(one, other);
+    held.swap(one + 1, other + 1);
 }
 
 fn mark_plain(header: &[u8], pixels: &[u32], out: &mut [u8]) {

@@ -4,6 +4,7 @@ use crate::compare;
 use crate::dtrek_cases;
 use crate::frame::{self, Header, LINE, NAME};
 use crate::ledger::{Date, Entry, BYTES};
+use crate::order_claims::{self, ANEW};
 use crate::plates;
 use crate::random::Random;
 use crate::sample::{self, Layout, Size, WANTED};
@@ -323,13 +324,16 @@ fn ledger_damage(random: &mut Random, ledger: &[u8], lines: u64) -> Mutation {
 fn damage(random: &mut Random, case: &Case) -> Vec<Mutation> {
     let target = match case.step.call {
         Call::Read | Call::Write | Call::Open | Call::Header | Call::List => Target::Frame,
-        Call::Correct | Call::Withdraw | Call::Amend | Call::Further if random.once_in(2) => {
+        Call::Correct | Call::Withdraw | Call::Amend | Call::Further | Call::Orders
+            if random.once_in(2) =>
+        {
             Target::Buffer
         }
         _ => Target::Ledger,
     };
     let length = match case.step.call {
         Call::List => 0,
+        Call::Orders if !random.once_in(8) => 0,
         Call::Read | Call::Write | Call::Open | Call::Header => random.pick(&[0, 1, 1, 1, 1, 2, 4]),
         _ => random.pick(&[0, 0, 0, 1, 1, 2]),
     };
@@ -604,6 +608,55 @@ fn further_case(random: &mut Random, size: Size) -> Case {
     case
 }
 
+/// Corrections of a few pixels, and now and then of one that the frame has not.
+fn corrections(random: &mut Random, header: &Header) -> Vec<Step> {
+    let (pixels, baseline) = (header.pixels() as u64, header.baseline as u32);
+    let length = match pixels {
+        0..=700 if random.once_in(24) => 20 + random.index(12),
+        0..=2000 => random.pick(&[1, 2, 2, 2, 3, 4, 7]),
+        _ => 2,
+    };
+    let few = 1 + random.below(6);
+    let (first, apart) = (random.below(pixels), random.pick(&[1, 1, 7]));
+    let unfit = random.once_in(8);
+    let one = |random: &mut Random| {
+        let mut next = step(random, Call::Correct, 0, baseline);
+        next.pixel = (first + apart * random.below(few)) % pixels.max(1);
+        let is_unfit =
+            |count: u32| header.underflow_width == 1 && (256..=baseline).contains(&count);
+        if is_unfit(next.count) && !unfit {
+            next.count %= 256;
+        }
+        next
+    };
+    let mut list: Vec<Step> = (0..length).map(|_| one(random)).collect();
+    if random.once_in(24) {
+        list[0].pixel = random.pick(&[pixels, list[0].pixel | 1 << 32, u64::MAX]);
+    }
+    list
+}
+
+/// Corrections of a held frame, as they come and in other orders.
+fn order_case(random: &mut Random, size: Size) -> Case {
+    let mut case = held_case(random, Call::Orders, size);
+    let header = frame::read_header(&case.buffer).unwrap_or_default();
+    let list = corrections(random, &header);
+    match random.below(8) {
+        0 => {}
+        1 => case
+            .ledger
+            .extend(any_bytes(random, 8 * list.len() * BYTES)),
+        _ => order_claims::give_room(random, &mut case, list.len()),
+    }
+    let others = order_claims::others(random, &list);
+    case.steps = list;
+    for run in others.into_iter().take(1 + random.index(2)) {
+        case.steps.push(ANEW);
+        case.steps.extend(run);
+    }
+    case
+}
+
 /// Most often a ledger of whole lines, and room for its text or one byte less.
 fn listing_case(random: &mut Random, size: Size) -> Case {
     let mut case = held_case(random, Call::Listing, size);
@@ -648,7 +701,7 @@ fn size(random: &mut Random, number: u64) -> Size {
 
 /// From Keep on they look at no frame.
 fn call(random: &mut Random, size: Size) -> Call {
-    let calls = if size.is_large() { 18 } else { 33 };
+    let calls = if size.is_large() { 18 } else { 34 };
     match random.below(calls) {
         0..=3 => Call::Read,
         4 | 5 => Call::Write,
@@ -669,7 +722,8 @@ fn call(random: &mut Random, size: Size) -> Call {
         28 => Call::MarRead,
         29 | 30 => Call::DtrekRead,
         31 => Call::DtrekHeader,
-        _ => Call::DtrekItem,
+        32 => Call::DtrekItem,
+        _ => Call::Orders,
     }
 }
 
@@ -685,6 +739,7 @@ pub fn case(random: &mut Random, number: u64) -> Made {
         Call::Listing => listing_case(random, size),
         Call::List => list_case(random, size),
         Call::Further => further_case(random, size),
+        Call::Orders => order_case(random, size),
         Call::WhyDay | Call::WhyPixel => why_case(random, call, size),
         _ => held_case(random, call, size),
     };

@@ -1,7 +1,8 @@
-//! One row of four pixels, held with its ledger: what the trials of amends, of compactions and of questions are made of.
+//! One row of four pixels or others, held with its ledger: what the trials of amends, of compactions, of questions and of orders are made of.
 use crate::case::{Call, Case, Step};
 use crate::frame::{self, LINE, NAME};
 use crate::ledger::{Date, Entry, BYTES};
+use crate::order_claims;
 use crate::random::Random;
 use crate::sample::{self, Layout};
 use crate::written_down::both;
@@ -29,6 +30,19 @@ pub const FORMS: [(u32, u32); 9] = [
     (4, 2),
 ];
 
+/// Counts at which a pixel is stored another way, in one form or another.
+pub const EDGES: [u32; 12] = [
+    0, 254, 255, 256, 300, 301, 555, 65534, 65535, 65834, 65835, 4294967295,
+];
+
+/// The baseline of a form's frames, 0 where none is subtracted.
+pub fn base((_, underflow): (u32, u32)) -> u32 {
+    match underflow {
+        0 => 0,
+        _ => BASELINE,
+    }
+}
+
 /// What is done to the held buffer.
 pub type Damage = fn(&mut Vec<u8>);
 
@@ -39,7 +53,7 @@ pub const RESPELLED: Damage = |held| held[20 * LINE + NAME..21 * LINE].rotate_ri
 pub struct Trial {
     pub call: Call,
     pub form: (u32, u32),
-    pub pixels: [u32; 4],
+    pub pixels: Vec<u32>,
     /// Bytes of the held buffer behind the frame.
     pub room: usize,
     pub lines: Vec<[u8; BYTES]>,
@@ -65,7 +79,10 @@ pub const fn keep((year, month, day): (u32, u32, u32)) -> Entry {
 
 /// The frame of these pixels in a form.
 fn written(pixels: &[u32], form: (u32, u32)) -> Vec<u8> {
-    let header = sample::header(&mut Random(1), &Layout::one_row(4, form, BASELINE));
+    let header = sample::header(
+        &mut Random(1),
+        &Layout::one_row(pixels.len(), form, BASELINE),
+    );
     let mut out = vec![0; MOST];
     match frame::write(&header, pixels, form.0, form.1, &mut out) {
         Ok(length) => out.truncate(length as usize),
@@ -80,7 +97,7 @@ impl Trial {
         let mut trial = Trial {
             call,
             form: (1, 1),
-            pixels: OPENED,
+            pixels: OPENED.to_vec(),
             room: 0,
             lines: Vec::new(),
             spare: 2 * BYTES,
@@ -152,24 +169,35 @@ pub fn behind_words(before: &[u8], after: &[u8], freed: usize) -> String {
     }
 }
 
+/// The counts of a frame of one row, or the first and the last of many, and where it ends.
+pub fn held_words(held: &[u8]) -> Option<(String, usize)> {
+    let counts = order_claims::counts(held);
+    let end = frame::read(held, &mut counts.clone()).ok()?.end as usize;
+    let words = match counts[..] {
+        [first, .., last] if counts.len() > 24 => {
+            format!("{} pixels, {first} to {last}", counts.len())
+        }
+        _ => joined(counts.into_iter().map(u64::from)),
+    };
+    Some((format!("{words}, ends at {end}"), end))
+}
+
 /// What became of the held buffer and of the ledger, where the bytes behind its lines were free.
 pub fn after_words(before: &Case, after: &Case) -> String {
     if before.buffer == after.buffer && before.ledger == after.ledger {
         return "untouched".to_string();
     }
-    let mut pixels = [0; 4];
-    let Ok(extent) = frame::read(&after.buffer, &mut pixels) else {
+    let Some((held, end)) = held_words(&after.buffer) else {
         return "no frame held".to_string();
     };
     let (used, free) = after.ledger.split_at(after.lines as usize * BYTES);
     let freed = free.iter().take_while(|byte| **byte == 0).count();
-    let cleared = after.buffer[extent.end as usize..].iter().all(|b| *b == 0);
+    let cleared = after.buffer[end..].iter().all(|b| *b == 0);
     let rest = match cleared {
         true => behind_words(&vec![FREE; free.len()], free, freed),
         false => ", bytes behind the frame".to_string(),
     };
-    let pixels = joined(pixels.into_iter().map(u64::from));
-    format!("{pixels}, ends at {}{rest}; {}", extent.end, listed(used))
+    format!("{held}{rest}; {}", listed(used))
 }
 
 /// A call of a list. An amend knows the pixel, for the two calls that it stands for.

@@ -1,4 +1,4 @@
-//! Ledgers spelled by letters, those that are refused among them, and calls by words: what the trials of compactions and of questions share.
+//! Ledgers spelled by letters, those that are refused among them, and calls by words: what the trials of compactions, of questions and of orders share.
 use crate::case::{Call, Case, Step};
 use crate::compare::Outcome;
 use crate::held_trial::{after_words, correction, keep, list_case, listed};
@@ -35,11 +35,19 @@ const fn less(lines: u64) -> u64 {
     0u64.wrapping_sub(lines)
 }
 
+/// A word and how often it is meant: `k*3` three times, and `k` once.
+pub fn times(word: &str) -> (&str, usize) {
+    match word.split_once('*') {
+        Some((word, times)) => (word, times.parse().unwrap_or(0)),
+        None => (word, 1),
+    }
+}
+
 /// The entries that letters stand for, where a part may be repeated: `k ab*3`.
 fn spelled(text: &str) -> Vec<Entry> {
-    let expanded = |part: &str| match part.split_once('*') {
-        Some((letters, times)) => letters.repeat(times.parse().unwrap_or(0)),
-        None => part.to_string(),
+    let expanded = |part: &str| {
+        let (letters, times) = times(part);
+        letters.repeat(times)
     };
     let letters: String = text.split_whitespace().map(expanded).collect();
     letters.chars().map(entry).collect()
@@ -335,7 +343,7 @@ fn counted(word: &str) -> Option<Deed> {
     }
 }
 
-fn steps(words: &str) -> Vec<Step> {
+pub fn steps(words: &str) -> Vec<Step> {
     let words = words.split_whitespace();
     words.map(|word| deed(word).step()).collect()
 }

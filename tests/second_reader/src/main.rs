@@ -23,6 +23,9 @@ mod listing;
 mod mar;
 mod mar_trials;
 mod model;
+mod order_claims;
+mod order_kinds;
+mod order_trials;
 mod plate;
 mod plates;
 mod random;
@@ -43,13 +46,14 @@ use std::time::{Duration, Instant, SystemTime, UNIX_EPOCH};
 use tally::Tally;
 
 const USAGE: &str =
-    "second_reader compare [--seed N] [--seconds S] [--fault 1..8] [--case FILE] [--trace 1]\n\
-                     second_reader replay FILE [--fault 1..8]\n\
+    "second_reader compare [--seed N] [--seconds S] [--fault 1..9] [--case FILE] [--trace 1]\n\
+                     second_reader replay FILE [--fault 1..9]\n\
                      second_reader mar-trials\n\
                      second_reader dtrek-trials\n\
                      second_reader amend-trials\n\
                      second_reader compact-trials\n\
                      second_reader why-trials\n\
+                     second_reader order-trials\n\
                      second_reader expand FRAME PIXELS\n\
                      second_reader expand-dtrek FILE PIXELS\n\
                      second_reader store HEADER PIXELS WIDTH UNDERFLOW FRAME";
@@ -208,6 +212,7 @@ fn run(words: &[&str]) -> Option<ExitCode> {
         ["amend-trials"] => Some(verdict(Ok(amend_trials::run()))),
         ["compact-trials"] => Some(verdict(Ok(compact_trials::run()))),
         ["why-trials"] => Some(verdict(Ok(why_trials::run()))),
+        ["order-trials"] => Some(verdict(Ok(order_trials::run()))),
         ["expand", frame, pixels] => Some(verdict(files::expand(Call::Read, frame, pixels))),
         ["expand-dtrek", file, pixels] => {
             Some(verdict(files::expand(Call::DtrekRead, file, pixels)))

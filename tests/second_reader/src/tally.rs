@@ -1,7 +1,9 @@
-//! Counts per call and refusal, and of the ledgers compacted and asked.
+//! Counts per call and refusal, of the ledgers compacted and asked, and of the runs of corrections compared.
 use crate::case::{Call, Case, Step, CALLS};
 use crate::compare::Outcome;
 use crate::ledger::{self, Date, Entry, BYTES};
+use crate::order_claims;
+use crate::order_kinds::{self, Start};
 use crate::sample::{Size, SIZES};
 use std::collections::BTreeMap;
 
@@ -13,7 +15,7 @@ pub struct Tally {
     /// Whole mar images by their side.
     plates: BTreeMap<usize, u64>,
     rare: BTreeMap<&'static str, u64>,
-    /// Accepted compactions and questions by what their ledgers were.
+    /// Accepted compactions and questions by what their ledgers were, and compared runs by what they were.
     ledgers: BTreeMap<(&'static str, &'static str), u64>,
     further: u64,
     met: BTreeMap<(Call, u64), u64>,
@@ -40,7 +42,7 @@ fn possible(call: Call) -> Vec<u64> {
         Call::DtrekRead => vec![0, 1, 10, 11, 32, 33, 34, 35],
         Call::DtrekHeader => vec![0, 1, 32, 33, 34, 35],
         Call::DtrekItem => vec![0, 1, 32, 33],
-        Call::Further | Call::List => Vec::new(),
+        Call::Further | Call::Orders | Call::List => Vec::new(),
     }
 }
 
@@ -199,13 +201,15 @@ const ASKING: &str = "ledgers asked";
 /// What lists of calls are counted by.
 const ROOM_USED: (&str, &str) = (COMPACTING, "full, and the freed room used at once");
 const ASKED_COMPACTED: (&str, &str) = (ASKING, "compacted");
+const LIST_SHUFFLED: (&str, &str) = (order_kinds::COMPARED, "of a list of calls");
 
-/// Every kind of ledger that has to be met.
+/// Every kind of ledger and of runs that has to be met.
 fn ledgers() -> impl Iterator<Item = (&'static str, &'static str)> {
     let compacted = COMPACTED.iter().map(|(name, _)| (COMPACTING, *name));
     let asked = ASKED.iter().map(|(name, _)| (ASKING, *name));
-    let lists = [ROOM_USED, ASKED_COMPACTED];
-    compacted.chain(asked).chain(lists)
+    let lists = [ROOM_USED, ASKED_COMPACTED, LIST_SHUFFLED];
+    let ledgers = compacted.chain(asked).chain(lists);
+    ledgers.chain(order_kinds::all())
 }
 
 impl Tally {
@@ -217,9 +221,11 @@ impl Tally {
         let used = call == Call::List && outcome.met.windows(3).any(is_room_used);
         self.add_ledger(ROOM_USED, used);
         self.add_ledger(ASKED_COMPACTED, is_asked_compacted(case, outcome));
-        for key in &outcome.met {
+        let calls = outcome.runs.iter().flat_map(|run| &run.outcome.met);
+        for key in outcome.met.iter().chain(calls) {
             *self.met.entry(*key).or_default() += 1;
         }
+        self.add_runs(case, outcome);
         match call {
             Call::Compact | Call::Further => self.add_compacted(case),
             Call::WhyDay | Call::WhyPixel => self.add_asked(case, outcome.answer()[1]),
@@ -253,6 +259,19 @@ impl Tally {
         };
         for (name, holds) in ASKED {
             self.add_ledger((ASKING, name), holds(&asked));
+        }
+    }
+
+    /// Counts the pairs of runs that A7 is about.
+    fn add_runs(&mut self, case: &Case, outcome: &Outcome) {
+        let start = Start::of(&outcome.runs);
+        for pair in order_claims::pairs(&outcome.runs) {
+            let kinds = order_kinds::of(start.as_ref(), &pair);
+            let listed = case.step.call == Call::List && pair.refusals() == [0, 0];
+            self.add_ledger(LIST_SHUFFLED, listed);
+            kinds
+                .into_iter()
+                .for_each(|kind| self.add_ledger(kind, true));
         }
     }
 
@@ -331,7 +350,7 @@ impl Tally {
             println!();
         }
         if !self.all_reached() {
-            println!("a refusal marked MISSED or a ledger counted 0 was not reached: give it more seconds");
+            println!("a refusal marked MISSED or a ledger or runs counted 0 were not reached: give it more seconds");
         }
     }
 }

@@ -1,6 +1,6 @@
 //! The second reader against values worked out by hand.
 use crate::case::{Call, Case, Step};
-use crate::compare::{self, Outcome};
+use crate::compare::{self, Outcome, Run};
 use crate::dtrek;
 use crate::frame::{self, refuse, Refusal};
 use crate::further;
@@ -8,6 +8,8 @@ use crate::generate;
 use crate::held;
 use crate::ledger::{self, Date, Entry};
 use crate::model::Model;
+use crate::order_claims;
+use crate::order_kinds::{self, Start};
 use crate::random::Random;
 use crate::sample::{self, Layout};
 use crate::why_claims;
@@ -237,6 +239,196 @@ fn a_wrong_count_breaks_the_claim() {
     assert!(!found(0, [6, 7], 4));
     assert!(!found(1, [5, 7], 3));
     assert!(!found(1, [5, 7], 0));
+}
+
+const BACK: Step = Step {
+    call: Call::Withdraw,
+    pixel: 0,
+    count: 0,
+    date: (0, 0, 0),
+};
+
+fn corrected(pixel: u64, count: u32) -> Step {
+    let call = Call::Correct;
+    Step {
+        call,
+        pixel,
+        count,
+        ..BACK
+    }
+}
+
+/// Runs on the frame of 5 and 9 with a ledger of four lines and room for so many.
+fn played(runs: &[&[Step]], room: usize, call: impl Fn(&Step, &mut Outcome) -> u64) -> Vec<Run> {
+    let (mut case, _) = compacted_case();
+    case.ledger.resize((4 + room) * 16, 7);
+    let runs = runs.iter().map(|run| run.to_vec()).collect();
+    order_claims::play(&case, runs, call)
+}
+
+fn broken_orders(runs: &[&[Step]], call: impl Fn(&Step, &mut Outcome) -> u64) -> Vec<&'static str> {
+    order_claims::broken(&played(runs, 12, call))
+}
+
+/// The second reader, but for one call, the one that makes so many lines: pixel 1 has 65536 more after it.
+fn wrong_at(lines: u64, pixel: u64) -> impl Fn(&Step, &mut Outcome) -> u64 {
+    move |step, out| {
+        let refusal = compare::second_step(step, out);
+        if (out.after.lines, step.pixel) == (lines, pixel) {
+            let last = out.after.buffer.len() - 2;
+            out.after.buffer[last] ^= 1;
+        }
+        refusal
+    }
+}
+
+#[test]
+fn an_order_that_matters_breaks_the_claims() {
+    let [a, b, c, d] = [
+        corrected(0, 1),
+        corrected(1, 2),
+        corrected(0, 3),
+        corrected(1, 4),
+    ];
+    let rows: [(&str, [&[Step]; 2], (u64, u64)); 7] = [
+        ("two pixels, in either order", [&[a, b], &[b, a]], (6, 0)),
+        (
+            "one pixel twice, and the second alone",
+            [&[b, d], &[d]],
+            (6, 1),
+        ),
+        ("one correction withdrawn", [&[b, BACK], &[]], (6, 0)),
+        (
+            "as many withdrawals as corrections",
+            [&[b, c, d, BACK, BACK, BACK], &[]],
+            (10, 0),
+        ),
+        ("lists in another order", [&[a, b, c], &[b, a, c]], (5, 1)),
+        ("the last ones alone", [&[a, b, c, d], &[d, c]], (8, 1)),
+        (
+            "others before the last ones",
+            [&[a, c, b], &[c, b, c]],
+            (6, 1),
+        ),
+    ];
+    for (claim, runs, (lines, pixel)) in rows {
+        assert_eq!(broken_orders(&runs, compare::second_step), [""; 0]);
+        let found = broken_orders(&runs, wrong_at(lines, pixel));
+        assert!(found.contains(&claim), "{claim}: {found:?}");
+    }
+    let taken_back: [&[Step]; 2] = [&[a, b, BACK], &[a]];
+    let found = broken_orders(&taken_back, wrong_at(7, 0));
+    assert_eq!(found, ["some withdrawn"]);
+}
+
+#[test]
+fn bytes_that_no_count_shows_break_the_claim() {
+    let [a, b] = [corrected(0, 1), corrected(1, 2)];
+    let touched = |step: &Step, out: &mut Outcome| {
+        out.after.buffer[250] ^= u8::from((out.after.lines, step.pixel) == (5, 0));
+        compare::second_step(step, out)
+    };
+    let found = broken_orders(&[&[a, b], &[b, a]], touched);
+    assert_eq!(found, ["two pixels, in either order"]);
+}
+
+#[test]
+fn runs_that_are_not_compared() {
+    let [a, b, c] = [corrected(0, 1), corrected(1, 2), corrected(0, 3)];
+    let pairs = |runs: [&[Step]; 2]| {
+        let runs = played(&runs, 3, compare::second_step);
+        let pairs = order_claims::pairs(&runs);
+        pairs.iter().map(|pair| pair.refusals()).collect::<Vec<_>>()
+    };
+    assert_eq!(pairs([&[a, b], &[b, a]]), [[0, 0]]);
+    assert_eq!(pairs([&[a, b, a, b], &[b, a]]), [[21, 0]]);
+    assert_eq!(pairs([&[a, c], &[c, a]]), [[0, 0]; 0]);
+    assert_eq!(pairs([&[a, b], &[a]]), [[0, 0]; 0]);
+    assert_eq!(pairs([&[a, BACK, BACK], &[a]]), [[0, 0]; 0]);
+    assert_eq!(pairs([&[corrected(2, 5)], &[corrected(0, 5)]]), [[0, 0]]);
+    let full = played(&[&[a, b], &[b, a]], 1, wrong_at(5, 0));
+    assert_eq!(order_claims::broken(&full), [""; 0]);
+    let full_behind_b = |step: &Step, out: &mut Outcome| {
+        if (out.after.lines, step.pixel) == (4, 1) {
+            out.after.ledger.truncate(5 * 16);
+        }
+        compare::second_step(step, out)
+    };
+    let either = [[&[a, b], &[b, a]], [&[b, a], &[a, b]]];
+    let found = either.map(|runs| broken_orders(&runs.map(|run| &run[..]), full_behind_b));
+    assert_eq!(found, [[""; 0]; 2]);
+}
+
+#[test]
+fn shuffled_lists_keep_the_last_of_each_pixel() {
+    let list: Vec<Step> = (0..12).map(|i| corrected(i % 3, i as u32)).collect();
+    let mut orders = Vec::new();
+    for seed in 0..50 {
+        let mut order: Vec<u32> = order_claims::shuffled(&mut Random(seed), &list)
+            .iter()
+            .map(|step| step.count)
+            .collect();
+        let last = |pixel: u32| order.iter().rev().find(|count| **count % 3 == pixel);
+        assert_eq!([0, 1, 2].map(last), [Some(&9), Some(&10), Some(&11)]);
+        orders.push(order.clone());
+        order.sort_unstable();
+        assert_eq!(order, (0..12).collect::<Vec<_>>());
+    }
+    orders.sort_unstable();
+    orders.dedup();
+    assert!(orders.len() > 45);
+}
+
+#[test]
+fn other_lists_leave_the_same_counts() {
+    let mut random = Random(5);
+    for seed in 0..200 {
+        let length = 1 + random.index(5);
+        let one = |random: &mut Random| corrected(random.below(2), random.below(5) as u32);
+        let list: Vec<Step> = (0..length).map(|_| one(&mut random)).collect();
+        let other = &order_claims::others(&mut Random(seed), &list)[0];
+        let runs = played(&[&list, other], 40, compare::second_step);
+        let pairs = order_claims::pairs(&runs);
+        assert!(*other == list || !pairs.is_empty(), "{list:?} {other:?}");
+        assert!(pairs.iter().all(|pair| pair.refusals() == [0, 0]));
+        assert_eq!(order_claims::broken(&runs), [""; 0]);
+    }
+}
+
+#[test]
+fn kinds_of_compared_runs() {
+    let [a, b] = [corrected(0, 254), corrected(1, u32::MAX)];
+    let kinds = |change: fn(&mut Case)| {
+        let (mut case, _) = compacted_case();
+        case.ledger.resize(10 * 16, 0);
+        change(&mut case);
+        let runs = vec![vec![a, b], vec![b, a]];
+        let runs = order_claims::play(&case, runs, compare::second_step);
+        let kinds = order_kinds::of(Start::of(&runs).as_ref(), &order_claims::pairs(&runs)[0]);
+        kinds.into_iter().map(|(_, name)| name).collect::<Vec<_>>()
+    };
+    let plain = [
+        "standing lines",
+        "cancelled lines",
+        "a frame that just fits",
+        "to 4294967295",
+        "to 254 above it",
+        "in form 4",
+        "two pixels, in either order",
+    ];
+    assert_eq!(kinds(|_| {}), plain);
+    let keep = |case: &mut Case| case.lines = 2;
+    assert_eq!(kinds(keep)[..2], ["standing lines", "a keep line on top"]);
+    let old = |case: &mut Case| case.ledger[3 * 16 + 8] ^= 1;
+    assert_eq!(kinds(old)[1], "a false old count on top");
+    let new = |case: &mut Case| case.ledger[3 * 16 + 12] ^= 1;
+    assert_eq!(kinds(new)[1], "another count on top than is held");
+    assert_eq!(
+        kinds(|case| case.ledger.truncate(5 * 16)),
+        ["refused with 21"]
+    );
+    let free = |case: &mut Case| case.ledger.resize(11 * 16, 1);
+    assert!(kinds(free).contains(&"other bytes than 0 behind the lines"));
 }
 
 #[test]
