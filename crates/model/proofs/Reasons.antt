@@ -20,7 +20,7 @@ use Rattle.ledger.specs.declared.Line.{Line}
 use Rattle.ledger.specs.declared.Found.{Found}
 use Rattle.ledger.specs.declared.Found.the-variants.{At, Nothing}
 use Rattle.ledger.specs.Lines.{linesOf}
-use Rattle.ledger.specs.Standing.{keeps, corrects, lastStanding, anyLine}
+use Rattle.ledger.specs.Standing.{keeps, corrects, lastStanding}
 use Rattle.ledger.specs.Ledger.{ledgerMalformed}
 use Rattle.ledger.proofs.Packing.{line-of-bytes}
 use Rattle.ledger.proofs.StandingLaws.{stack}
@@ -42,19 +42,12 @@ use Rattle.model.specs.Ledger.{Ledger, ledgerBytes}
 use Rattle.model.specs.Run.{State, step, openingOf, AllCounted}
 use Rattle.model.specs.Theorems.{linesAt, withdrawals, AllAccepted, DayEarlier, PixelEarlier, dayUnnumbered, pixelUnnumbered, ReasonsUnobservable, countSaid, CountsExplained}
 use Rattle.model.proofs.Held.{Given, held-pixels}
-use Rattle.model.proofs.Accepted.{taken, withdrawal-sized, withdrawal-writable, read-as, line-more}
+use Rattle.model.proofs.Accepted.{taken, withdrawal-sized, withdrawal-writable, read-as, line-more, last-top}
 use Rattle.model.proofs.Agree.{lineStack, length-with, good-pixels, Same, stateAt}
 use Rattle.model.proofs.Compacted.{same-found, compacted-equivalent}
 use Rattle.model.proofs.Exactly.{later, by-opening}
 
 -- A withdrawal that is accepted.
-
-some-stands : (t : List ℕ) (n i : ℕ) (l : Line) → lastStanding anyLine 0 (linesOf n t) ≡ At i l → 0 < length (stack [] (linesOf n t))
-some-stands t n i l e = go (stack [] (linesOf n t)) (sym (ap foundLines e) ∙ last-is-top anyLine 0 (linesOf n t))
-  where
-    go : (st : List Line) → l ∷ [] ≡ firstWhere anyLine st → 0 < length st
-    go [] q = let z : _≡_ {A = ℕ} 0 1 = cc in absurd (omega arith)
-    go (x ∷ st) q = omega arith
 
 -- one accepted withdrawal on a ledger that is well formed: its line is appended, and the ledger stays so
 record Drawn (s u : State) : Type 0 where
@@ -72,13 +65,14 @@ drawn-one s e =
     let w = taken h t n (withdraw-view h t n) e in
     let answer = back-answer h t n (w .back) in
     let ledger = back-ledger h t n (w .back) in
+    let top = last-top (linesOf n t) (w .index) (w .line) (w .last) in
     let right = line-of-bytes withdrawalLine withdrawal-sized (withdrawal-writable .right) in
     record {
       more = withdrawalLine ∷ [];
       withdraw = (refl, tt);
       lines = rw (answer, ledger) (line-more t n (w .room) withdrawal-writable);
       well = λ well. rw (answer, ledger) (ledger-appended t n withdrawalLine (w .room)
-          ∙ rw (well, right, read-as withdrawal-writable, ne-eqb (length (stack [] (linesOf n t))) 0 (λ z. omega (arith, some-stands t n (w .index) (w .line) (w .last)))));
+          ∙ rw (well, right, read-as withdrawal-writable, ne-eqb (length (stack [] (linesOf n t))) 0 (λ z. omega (arith, ap length (top .is)))));
     }
 
 drawn : (count : ℕ) (s : State) → AllAccepted (run step (withdrawals count) s .replies) → Drawn s (run step (withdrawals count) s .state)

@@ -10,10 +10,7 @@ use lib.ListN.{length, getD, set}
 use lib.Seq.{set-set, set-getD}
 use Rattle.ledger.specs.declared.Kind.the-variants as K
 use Rattle.ledger.specs.declared.Line.{Line}
-use Rattle.ledger.specs.declared.Found.the-variants.{At}
-use Rattle.ledger.specs.Standing.{lastStanding, anyLine}
 use Rattle.ledger.proofs.StandingLaws.{stack, stack-more}
-use Rattle.ledger.proofs.Appending.{foundLines, firstWhere, last-is-top}
 use Rattle.ledger.proofs.Written.{Each}
 use Rattle.readback.specs.Held.{heldPixels, isHeld}
 use Rattle.archive.specs.Calls.{Outcome, correctionLine, withdrawalLine}
@@ -24,7 +21,7 @@ use Rattle.model.specs.Run.{State, step, AllCounted}
 use Rattle.model.specs.Theorems.{linesAt, withdrawals, AllAccepted}
 use Rattle.model.proofs.Held.{Given}
 use Rattle.model.proofs.Prefix.{run-state, run-replies}
-use Rattle.model.proofs.Accepted.{taken, withdrawal-writable, correction-writable, line-more}
+use Rattle.model.proofs.Accepted.{taken, withdrawal-writable, correction-writable, line-more, last-top}
 use Rattle.order.specs.Order.{Correction, correction, corrections, Accepted, heldAfter, OfBytes, AllTakenBack, TakenBack}
 use Rattle.order.proofs.Kept.{Kept, start, kept-same, kept-pixels, kept-changed}
 use Rattle.order.proofs.Order.{corrected-by}
@@ -60,11 +57,6 @@ module _ (o : Opening) (g : Given o) (base : List Line) where
         each = ((refl, fits), k .each);
       }
 
-  top-is : (s : State) (i : ℕ) (x l : Line) (ls : List Line) → lastStanding anyLine 0 (linesAt s) ≡ At i x → stack [] (linesAt s) ≡ l ∷ ls → x ≡ l
-  top-is s i x l ls e k =
-      let q : x ∷ [] ≡ l ∷ [] = sym (ap foundLines e) ∙ last-is-top anyLine 0 (linesAt s) ∙ ap (firstWhere anyLine) k in
-      cc
-
   held-back : {vs : List ℕ} {l : Line} (s : State) {out : Outcome} → Kept o vs (s .held) → Undoable l → Back (s .held) (s .ledger) (s .lines) l out → Kept o (set vs (l .pixel) (l .old)) (out .held)
   held-back s k u (corrected e c) = kept-changed o g k (u .1) c
   held-back s k u (kept e q) = let z : K.Correction ≡ K.Keep = sym (u .0) ∙ e in let y : _≡_ {A = ℕ} 0 1 = cc in absurd (omega arith)
@@ -74,7 +66,9 @@ module _ (o : Opening) (g : Given o) (base : List Line) where
   unfolding step
   stacked-withdrawn {vs} {l} {ls} s k a =
       let w = taken (s .held) (s .ledger) (s .lines) (withdraw-view (s .held) (s .ledger) (s .lines)) a in
-      let same : w .line ≡ l = top-is s (w .index) (w .line) l (ls ++ base) (w .last) (k .standing) in
+      let top = last-top (linesAt s) (w .index) (w .line) (w .last) in
+      let both : w .line ∷ top .below ≡ l ∷ (ls ++ base) = sym (top .is) ∙ k .standing in
+      let same : w .line ≡ l = cc in
       record {
         held = held-back s (k .held) (k .each .0) (rw same at (w .back));
         standing =
