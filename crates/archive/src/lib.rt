@@ -105,31 +105,6 @@ fn withdrawal_line() -> Line
     }
 }
 
-// A correction of a pixel whose index fits the ledger's field.
-fn correct_pixel(
-    held: &mut [u8],
-    ledger: &mut [u8],
-    lines: u64,
-    pixel: u32,
-    count: u32,
-) -> LedgerAnswer
-    ensures { λ r. ⌜ r ≡ correctOutcome (now (held .entry)) (now (ledger .entry)) lines pixel count .answer ⌝ }
-    ensures { λ _. ⌜ now (held .exit) ≡ correctOutcome (now (held .entry)) (now (ledger .entry)) lines pixel count .held ⌝ }
-    ensures { λ _. ⌜ now (ledger .exit) ≡ correctOutcome (now (held .entry)) (now (ledger .entry)) lines pixel count .ledger ⌝ }
-{
-    let SurveyAnswer::Surveyed(_) = ledger::survey(ledger, lines) else {
-        return LedgerAnswer::Refused(held_refusal(held, Refusal::LedgerMalformed));
-    };
-    if is_full(ledger, lines) {
-        return LedgerAnswer::Refused(full_refusal(held, pixel, Expected::Any));
-    }
-    let replaced = replacement::replace(held, pixel, Expected::Any, count);
-    let Replaced::Done { old } = replaced else {
-        return LedgerAnswer::Refused(replace_refusal(replaced));
-    };
-    ledger::append(ledger, lines, correction_line(pixel, old, count))
-}
-
 // An index of 32 bits that is as far outside every frame, where the index has more.
 fn within_u32(pixel: u64) -> u32
     ensures { λ r. ⌜ r ≡ within32 pixel ⌝ }
@@ -154,7 +129,17 @@ pub fn correct(
     ensures { λ _. ⌜ now (ledger .exit) ≡ correctOutcome (now (held .entry)) (now (ledger .entry)) lines pixel count .ledger ⌝ }
 {
     let p = within_u32(pixel);
-    correct_pixel(held, ledger, lines, p, count)
+    let SurveyAnswer::Surveyed(_) = ledger::survey(ledger, lines) else {
+        return LedgerAnswer::Refused(held_refusal(held, Refusal::LedgerMalformed));
+    };
+    if is_full(ledger, lines) {
+        return LedgerAnswer::Refused(full_refusal(held, p, Expected::Any));
+    }
+    let replaced = replacement::replace(held, p, Expected::Any, count);
+    let Replaced::Done { old } = replaced else {
+        return LedgerAnswer::Refused(replace_refusal(replaced));
+    };
+    ledger::append(ledger, lines, correction_line(p, old, count))
 }
 
 // Takes the last standing line back, which is a correction.
