@@ -1,4 +1,4 @@
--- Document 02, A7: what the order of corrections decides. proofs/Order.antt proves these statements, for every held buffer, ledger and number of lines.
+-- Document 02, A7: what the order of corrections decides. proofs/Order.antt, Back.antt and Calls.antt prove these statements, for every held buffer, ledger and number of lines.
 -- Compared runs start from one state and every call of them is made on what the last one left; the ledgers after them are not compared.
 use Prim.Native.Nat.{ℕ, _<_}
 use mathlib.Core.Path.{_≡_}
