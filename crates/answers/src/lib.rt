@@ -1,4 +1,6 @@
 // The C interface's answer to a reading, whatever the file's format.
+#![tactic(auto)]
+
 ghost use Rattle.std.specs.Prelude.{◌≡◌};
 ghost use Rattle.answers.specs.Read.{read_refused, read_accepted};
 
@@ -6,7 +8,7 @@ use refusal::Refusal;
 
 // refusal is 0 where the file is accepted. Every field that a case does not name is 0.
 #[repr(C)]
-#[derive(Drop)]
+#[derive(Clone, Copy)]
 pub struct ReadResult {
     pub refusal: u32,
     pub place: u32,

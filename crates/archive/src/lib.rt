@@ -1,4 +1,6 @@
 // The held frame and its ledger: correction, withdrawal and amending.
+#![tactic(auto)]
+
 ghost use Rattle.std.specs.Prelude.{◌+◌, ◌≡◌, [], ◌∷◌};
 ghost use Rattle.ledger.specs.Ledger.{ledger_full};
 ghost use Rattle.canonical.specs.Located.{located};

@@ -4,6 +4,8 @@
 // after each one the answer, the number of lines, the held bytes and the ledger's bytes are compared with those of the plain model.
 // A row may go on: pixel 0 is corrected to 7, then h or l (held or ledger), a place and the text put there, the refusal that a
 // withdrawal must give, a pixel and the refusal that its correction must give. A row that starts with # is a heading.
+#![tactic(auto)]
+
 ghost use Rattle.std.specs.Prelude.{◌≤◌, length};
 
 use calendar::Date;
@@ -15,7 +17,7 @@ use opening::OpenAnswer;
 use writer::{AskedForm, WriteAnswer};
 
 // A call: 0 correction, 1 keep entry, 2 withdrawal, 3 purge question. One beyond is of a pixel 4294967296 higher.
-#[derive(Drop)]
+#[derive(Clone, Copy)]
 struct Call {
     pub kind: u32,
     pub pixel: u32,
@@ -25,28 +27,28 @@ struct Call {
 }
 
 // The model's lines and the entries on its stack.
-#[derive(Drop)]
+#[derive(Clone, Copy)]
 struct Model {
     pub lines: usize,
     pub top: usize,
 }
 
 // What a call answers, 0 for yes, and the model behind it.
-#[derive(Drop)]
+#[derive(Clone, Copy)]
 struct Expected {
     pub number: u32,
     pub model: Model,
 }
 
 // What a call answered, and the lines that it gave back.
-#[derive(Drop)]
+#[derive(Clone, Copy)]
 struct Given {
     pub number: u32,
     pub lines: u64,
 }
 
 // What a row says of its calls.
-#[derive(Drop)]
+#[derive(Clone, Copy)]
 struct Setting {
     pub asked: AskedForm,
     pub baseline: u32,
@@ -55,7 +57,7 @@ struct Setting {
 }
 
 // How far a list went: the calls made, and whether all agreed.
-#[derive(Drop)]
+#[derive(Clone, Copy)]
 struct Played {
     pub model: Model,
     pub calls: usize,

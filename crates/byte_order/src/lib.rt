@@ -1,4 +1,6 @@
 // Numbers in either byte order.
+#![tactic(auto)]
+
 ghost use Rattle.std.specs.Prelude.{◌≡◌, ◌+◌, ◌*◌, ◌/◌, ◌%◌, ◌<◌, ◌≤◌, length, drop, leb};
 ghost use Rattle.lists.specs.Choose.{if◌then◌else◌};
 ghost use Rattle.lists.specs.Bytes.{little};
@@ -9,7 +11,7 @@ ghost use Rattle.byte_order.specs.Numbers.{numbers, number_at};
 use layout::Width;
 
 // Least significant byte first, or most significant first.
-#[derive(Drop)]
+#[derive(Clone, Copy)]
 pub enum ByteOrder {
     Little,
     Big,

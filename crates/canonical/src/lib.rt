@@ -1,4 +1,6 @@
 // The check of a held frame: whether the writer would give these bytes for what is read from them, and where a pixel's entries stand.
+#![tactic(auto)]
+
 ghost use Rattle.std.specs.Prelude.{◌≡◌, true, false, ◌&&◌, ◌+◌, ◌-◌, ◌<◌, ◌≤◌, ◌^◌, length, take, eqb};
 ghost use Rattle.layout.specs.Form.{width_bytes};
 ghost use Rattle.layout.specs.Layout.{underflow_count};
@@ -21,7 +23,7 @@ use tally::Tally;
 
 // A pixel of a held frame: the form, the numbers of pixels and of entries, the entries of the pixels before it, and its count.
 // Kind none has the baseline 0.
-#[derive(Drop)]
+#[derive(Clone, Copy)]
 pub struct Place {
     pub start: u32,
     pub pixels: usize,
@@ -32,7 +34,7 @@ pub struct Place {
     pub old: u32,
 }
 
-#[derive(Drop)]
+#[derive(Clone, Copy)]
 pub enum Located {
     NotCanonical,
     NoPixel,
@@ -40,14 +42,14 @@ pub enum Located {
 }
 
 // The counts of the first entries of a table, and of all.
-#[derive(Drop)]
+#[derive(Clone, Copy)]
 struct Split {
     first: Tally,
     all: Tally,
 }
 
 // The zeros and marks of an image, and the marks of a two-byte table.
-#[derive(Drop)]
+#[derive(Clone, Copy)]
 struct Marks {
     zeros: usize,
     marks: usize,
@@ -55,7 +57,7 @@ struct Marks {
 }
 
 // The marks before a pixel and of the whole, and whether every number lies where the writer's do.
-#[derive(Drop)]
+#[derive(Clone, Copy)]
 struct Seen {
     before: Marks,
     all: Marks,

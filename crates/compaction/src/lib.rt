@@ -1,4 +1,6 @@
 // Compaction of a ledger: its standing lines alone.
+#![tactic(auto)]
+
 ghost use Rattle.std.specs.Prelude.{◌≡◌, false, ◌/◌, ◌≤◌, length};
 ghost use Rattle.ledger.specs.Lines.{some_malformed};
 ghost use Rattle.compaction.specs.Compact.{compact_answer, compact_bytes};

@@ -1,4 +1,6 @@
 // The header of a d*TREK image: any bytes give its numbers or one refusal.
+#![tactic(auto)]
+
 ghost use Rattle.std.specs.Prelude.{◌≡◌, ◌≤◌, length};
 ghost use Rattle.numeral.specs.Numerals.{number_of};
 ghost use Rattle.dtrek_text.specs.Items.{items};
@@ -13,20 +15,20 @@ use layout::{Image, Width};
 use numeral::Number;
 use refusal::Refusal;
 
-#[derive(Drop)]
+#[derive(Clone, Copy)]
 pub struct DtrekHeader {
     pub image: Image,
     pub order: ByteOrder,
 }
 
-#[derive(Drop)]
+#[derive(Clone, Copy)]
 pub enum DtrekHeaderAnswer {
     Accepted(DtrekHeader),
     Refused(Refusal),
 }
 
 // The header's length, if it is shown and listed.
-#[derive(Drop)]
+#[derive(Clone, Copy)]
 pub enum Length {
     Bytes(u32),
     Unlisted,

@@ -1,4 +1,6 @@
 // Reading a d*TREK image: any bytes give pixels or one refusal.
+#![tactic(auto)]
+
 ghost use Rattle.std.specs.Prelude.{◌≡◌, length};
 ghost use Rattle.dtrek_image.specs.DtrekImage.{image_answer, image_pixels, dtrek_answer, dtrek_pixels};
 
@@ -6,7 +8,7 @@ use dtrek_header::{DtrekHeader, DtrekHeaderAnswer};
 use refusal::Refusal;
 
 // The pixels' rows and columns, and the place where they end; or why there is no image.
-#[derive(Drop)]
+#[derive(Clone, Copy)]
 pub enum DtrekAnswer {
     Read { rows: u32, columns: u32, end: u64 },
     Refused(Refusal),

@@ -1,4 +1,6 @@
 // The items of a d*TREK header's text in one pass: the syntax, a keyword twice, and where the values stand that are read.
+#![tactic(auto)]
+
 ghost use Rattle.std.specs.Prelude.{◌≡◌, ◌+◌, ◌*◌, ◌≤◌, ◌<◌, length};
 ghost use Rattle.dtrek_items.specs.Keys.{compared, Rising, Sought, Inserted};
 ghost use Rattle.dtrek_items.specs.Survey.{is_there, value_at, Surveyed, no_contents, noted, noted_all};
@@ -6,14 +8,14 @@ ghost use Rattle.dtrek_items.specs.Survey.{is_there, value_at, Surveyed, no_cont
 use dtrek_text::{Cursor, Scanned};
 
 // Where the content of an item stands: from behind its equals sign to its semicolon. Both are 0 where there is no such item.
-#[derive(Drop)]
+#[derive(Clone, Copy)]
 pub struct Content {
     pub from: usize,
     pub stop: usize,
 }
 
 // The contents under the keywords that are read.
-#[derive(Drop)]
+#[derive(Clone, Copy)]
 pub struct Contents {
     pub dim: Content,
     pub size1: Content,
@@ -24,7 +26,7 @@ pub struct Contents {
 }
 
 // Malformed is refusal 33. TooLong is for a text that is longer than any header.
-#[derive(Drop)]
+#[derive(Clone, Copy)]
 pub enum ItemsAnswer {
     Sound(Contents),
     Malformed,
@@ -56,7 +58,7 @@ pub fn value(text: &[u8], c: Content) -> &[u8]
 }
 
 // Which of two byte strings comes first.
-#[derive(Drop)]
+#[derive(Clone, Copy)]
 pub enum Order {
     Before,
     Same,
@@ -87,7 +89,7 @@ fn compare(a: &[u8], b: &[u8]) -> Order
 }
 
 // Whether a keyword is among those in order, or else its place among them.
-#[derive(Drop)]
+#[derive(Clone, Copy)]
 pub enum Slot {
     Taken,
     Free(usize),

@@ -1,4 +1,6 @@
 // What a d*TREK file says, as plain numbers.
+#![tactic(auto)]
+
 ghost use Rattle.std.specs.Prelude.{◌≡◌, length};
 ghost use Rattle.dtrek_text.specs.Scan.{item_from};
 ghost use Rattle.dtrek_header.specs.DtrekHeader.{Bounded, dtrek_header};
@@ -15,7 +17,7 @@ use refusal::Refusal;
 
 // refusal is 0 where the header is accepted; else every other field is 0.
 #[repr(C)]
-#[derive(Drop)]
+#[derive(Clone, Copy)]
 pub struct DtrekHeaderReport {
     pub refusal: u32,
     pub start: u32,
@@ -28,7 +30,7 @@ pub struct DtrekHeaderReport {
 
 // found is 1 where an item was read; a field that does not apply is 0.
 #[repr(C)]
-#[derive(Drop)]
+#[derive(Clone, Copy)]
 pub struct DtrekItemReport {
     pub refusal: u32,
     pub found: u32,

@@ -1,4 +1,6 @@
 // The text of a d*TREK header: items that end with a semicolon, and the header's end.
+#![tactic(auto)]
+
 ghost use Rattle.std.specs.Prelude.{◌≡◌};
 ghost use Rattle.lists.specs.Bytes.{same_bytes};
 ghost use Rattle.numeral.specs.Runs.{leading, passed};
@@ -7,7 +9,7 @@ ghost use Rattle.dtrek_text.specs.Parts.{is_end};
 ghost use Rattle.dtrek_text.specs.Scan.{word_of, item_from};
 
 // A kind of byte.
-#[derive(Drop)]
+#[derive(Clone, Copy)]
 pub enum Class {
     White,
     Keyword,
@@ -159,7 +161,7 @@ pub fn keyword_at(text: &[u8], from: usize) -> &[u8]
 }
 
 // Where the keyword of a part stands, if the part is an item.
-#[derive(Drop)]
+#[derive(Clone, Copy)]
 enum Word {
     Found { start: usize, end: usize },
     Missing,
@@ -189,14 +191,14 @@ fn word_of(p: &[u8]) -> Word
 }
 
 // The place in the text behind the last semicolon that was read.
-#[derive(Drop)]
+#[derive(Clone, Copy)]
 pub struct Cursor {
     pub at: usize,
 }
 
 // An item: its keyword stands from start to end, its content from behind the equals sign at end to the semicolon at stop; next reads on
 // behind it. Bad: a semicolon ends what is no item. Last: no semicolon follows.
-#[derive(Drop)]
+#[derive(Clone, Copy)]
 pub enum Scanned {
     Found {
         start: usize,

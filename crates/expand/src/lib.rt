@@ -1,4 +1,6 @@
 // FORMAT 100: from the bytes of an image and its tables to pixels, in one pass over blocks of pixels.
+#![tactic(auto)]
+
 ghost use Rattle.std.specs.Prelude.{◌≡◌, ◌+◌, ◌*◌, ◌^◌, ◌<◌, ◌≤◌, true, false, ◌&&◌, ◌||◌, [], ◌∷◌, map, length, drop, ◌==◌, nat_lt, slice_index};
 ghost use Rattle.lists.specs.Choose.{if◌then◌else◌};
 ghost use Rattle.layout.specs.Form.{width_bytes, entry_bytes};
@@ -15,28 +17,28 @@ use layout::{BinaryTables, EntryWidth, Image, Underflows, Width};
 use refusal::Refusal;
 
 // Where an accepted frame ends, or why it is refused.
-#[derive(Drop)]
+#[derive(Clone, Copy)]
 pub enum Expanded {
     Frame { end: u64 },
     Refused(Refusal),
 }
 
 // The next entries of the two-byte and the four-byte table.
-#[derive(Drop)]
+#[derive(Clone, Copy)]
 struct Cursors {
     two: usize,
     four: usize,
 }
 
 // The next underflow entry, and whether a baseline sum was too large.
-#[derive(Drop)]
+#[derive(Clone, Copy)]
 struct Under {
     next: usize,
     over: bool,
 }
 
 // All that a block hands on to the next.
-#[derive(Drop)]
+#[derive(Clone, Copy)]
 struct Taken {
     two: usize,
     four: usize,
@@ -45,7 +47,7 @@ struct Taken {
 }
 
 // Step c: whether it applies, its entries and the baseline.
-#[derive(Drop)]
+#[derive(Clone, Copy)]
 struct StepC {
     applies: bool,
     width: EntryWidth,
@@ -54,7 +56,7 @@ struct StepC {
 }
 
 // Where a table lies; its entries end where its padding starts.
-#[derive(Drop)]
+#[derive(Clone, Copy)]
 pub struct Extent {
     pub start: usize,
     pub padding: usize,
@@ -62,7 +64,7 @@ pub struct Extent {
 }
 
 // Where the image starts and the tables lie.
-#[derive(Drop)]
+#[derive(Clone, Copy)]
 pub struct Places {
     pub image: usize,
     pub under: Extent,
@@ -71,7 +73,7 @@ pub struct Places {
 }
 
 // Where a frame's parts lie, or that some are not there.
-#[derive(Drop)]
+#[derive(Clone, Copy)]
 pub enum PartsAnswer {
     Missing,
     At(Places),
@@ -381,21 +383,21 @@ fn blocks(
 }
 
 // A pixel after steps a and b, and the next entries.
-#[derive(Drop)]
+#[derive(Clone, Copy)]
 struct ReplacedPixel {
     value: u32,
     next: Cursors,
 }
 
 // A pixel after step c, and what it hands on.
-#[derive(Drop)]
+#[derive(Clone, Copy)]
 struct LiftedPixel {
     value: u32,
     under: Under,
 }
 
 // A pixel after the three steps, and all that it hands on.
-#[derive(Drop)]
+#[derive(Clone, Copy)]
 struct SteppedPixel {
     value: u32,
     taken: Taken,

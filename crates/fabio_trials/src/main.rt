@@ -1,4 +1,6 @@
 // Reads each frame that its arguments name, all written by FabIO, and prints the pixels. The stored output is FabIO's own reading.
+#![tactic(auto)]
+
 use libc::STDOUT_FILENO;
 use reader::ReadAnswer;
 

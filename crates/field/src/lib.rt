@@ -1,17 +1,19 @@
 // The fields of a header line, taken in order by a cursor.
+#![tactic(auto)]
+
 ghost use Rattle.std.specs.Prelude.{◌≡◌};
 ghost use Rattle.field.specs.Fields.{field_from, number_field, version_field, count_field, decimal_field};
 
 use numeral::{Class, Number};
 
 // The place in a line after the last field taken.
-#[derive(Drop)]
+#[derive(Clone, Copy)]
 pub struct Cursor {
     pub at: usize,
 }
 
 // The next field stands from start to end; next reads on from there.
-#[derive(Drop)]
+#[derive(Clone, Copy)]
 pub enum Field {
     Found {
         start: usize,
@@ -22,14 +24,14 @@ pub enum Field {
 }
 
 // A field that is a number, and the cursor behind it. Bad: missing or no such number.
-#[derive(Drop)]
+#[derive(Clone, Copy)]
 pub enum NumberField {
     Read(u32, Cursor),
     Bad,
 }
 
 // A field that is a number or -1.
-#[derive(Drop)]
+#[derive(Clone, Copy)]
 pub enum CountField {
     Read(u32, Cursor),
     MinusOne(Cursor),
@@ -37,7 +39,7 @@ pub enum CountField {
 }
 
 // A field that is a decimal number of a given value.
-#[derive(Drop)]
+#[derive(Clone, Copy)]
 pub enum DecimalField {
     Equal(Cursor),
     Other,

@@ -1,4 +1,6 @@
 // The smallest of the nine forms, by what was counted.
+#![tactic(auto)]
+
 ghost use Rattle.std.specs.Prelude.{◌≡◌, ◌+◌};
 ghost use Rattle.layout.specs.Form.{form_of};
 ghost use Rattle.layout.specs.Layout.{table_bytes};
@@ -14,7 +16,7 @@ use refusal::Refusal;
 use survey::Survey;
 
 // A form with the length of its frame, or why there is none.
-#[derive(Drop)]
+#[derive(Clone, Copy)]
 pub enum Choice {
     Chosen { form: Form, length: u64 },
     Refused(Refusal),

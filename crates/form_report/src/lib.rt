@@ -1,4 +1,6 @@
 // The smallest form, and an opening in it, as plain numbers.
+#![tactic(auto)]
+
 ghost use Rattle.std.specs.Prelude.{◌≡◌};
 ghost use Rattle.form_report.specs.Report.{form_numbers, no_form, form_result, held_numbers, open_form_result};
 
@@ -8,7 +10,7 @@ use opening::{FormOpened, OpenAnswer};
 
 // refusal is 0 where the call is accepted. Every field that a case does not name is 0.
 #[repr(C)]
-#[derive(Drop)]
+#[derive(Clone, Copy)]
 pub struct FormResult {
     pub refusal: u32,
     pub place: u32,
@@ -19,7 +21,7 @@ pub struct FormResult {
 }
 
 #[repr(C)]
-#[derive(Drop)]
+#[derive(Clone, Copy)]
 pub struct OpenFormResult {
     pub refusal: u32,
     pub place: u32,
@@ -33,7 +35,7 @@ pub struct OpenFormResult {
 }
 
 // The bytes of a pixel and of an underflow entry.
-#[derive(Drop)]
+#[derive(Clone, Copy)]
 struct FormNumbers {
     width: u32,
     underflow: u32,

@@ -1,4 +1,6 @@
 // Answers on frames read, written and opened, as plain numbers, and the form that two numbers ask for.
+#![tactic(auto)]
+
 ghost use Rattle.std.specs.Prelude.{◌≡◌};
 ghost use Rattle.frame_report.specs.Report.{read_result, as_form, asked_form, write_result, not_opened, open_result};
 
@@ -11,7 +13,7 @@ use writer::{AskedForm, WriteAnswer};
 
 // refusal is 0 where the call is accepted. Every field that a case does not name is 0.
 #[repr(C)]
-#[derive(Drop)]
+#[derive(Clone, Copy)]
 pub struct WriteResult {
     pub refusal: u32,
     pub place: u32,
@@ -20,7 +22,7 @@ pub struct WriteResult {
 }
 
 #[repr(C)]
-#[derive(Drop)]
+#[derive(Clone, Copy)]
 pub struct OpenResult {
     pub refusal: u32,
     pub place: u32,

@@ -1,4 +1,6 @@
 // Reading a header: its numbers, or the refusal that is due first.
+#![tactic(auto)]
+
 ghost use Rattle.std.specs.Prelude.{◌≡◌, ◌<◌, length};
 ghost use Rattle.header.specs.Steps.{line_number, step_refusal, value_of, value_refusal, number_in};
 ghost use Rattle.header.specs.Lead.{format_from, is_version, is_blocks, lead_numbers, lead_of, lead_refusal};
@@ -12,14 +14,14 @@ use layout::{BinaryTables, EntryAnswer, Header, Image, Tables, Underflows, Width
 use refusal::Refusal;
 
 // A number of a line and the cursor behind it, or the refusal.
-#[derive(Drop)]
+#[derive(Clone, Copy)]
 pub enum NumberStep {
     Read(u32, Cursor),
     Refused(Refusal),
 }
 
 // The number that a line has to give, or the refusal.
-#[derive(Drop)]
+#[derive(Clone, Copy)]
 pub enum ValueAnswer {
     Read(u32),
     Refused(Refusal),
@@ -76,13 +78,13 @@ fn number_in(id: LineId, header: &[u8]) -> ValueAnswer
     value_of(line_number(id, line_reader::number_at(text, 0)))
 }
 
-#[derive(Drop)]
+#[derive(Clone, Copy)]
 pub enum Format {
     Format86,
     Format100,
 }
 
-#[derive(Drop)]
+#[derive(Clone, Copy)]
 pub enum FormatAnswer {
     Listed(Format),
     Unlisted,
@@ -126,7 +128,7 @@ fn is_blocks(format: Format, n: u32) -> bool
 }
 
 // FORMAT, and HDRBLKS in bytes.
-#[derive(Drop)]
+#[derive(Clone, Copy)]
 pub enum LeadAnswer {
     Read { format: Format, length: u32 },
     Refused(Refusal),
@@ -196,14 +198,14 @@ fn read_lead(bytes: &[u8]) -> LeadAnswer
 }
 
 // The first number of NOVERFL in FORMAT 100.
-#[derive(Drop)]
+#[derive(Clone, Copy)]
 pub enum UnderflowCount {
     Unused,
     Count(u32),
 }
 
 // The numbers of NOVERFL.
-#[derive(Drop)]
+#[derive(Clone, Copy)]
 pub enum Counts {
     Format86 {
         entries: u32,
@@ -215,7 +217,7 @@ pub enum Counts {
     },
 }
 
-#[derive(Drop)]
+#[derive(Clone, Copy)]
 pub enum CountsAnswer {
     Read(Counts),
     Refused(Refusal),
@@ -286,13 +288,13 @@ fn counts_in(format: Format, header: &[u8]) -> CountsAnswer
 }
 
 // The numbers of NPIXELB; FORMAT 86 has no underflow width, and its 0 stands for none.
-#[derive(Drop)]
+#[derive(Clone, Copy)]
 pub struct Widths {
     pub pixel: u32,
     pub underflow: u32,
 }
 
-#[derive(Drop)]
+#[derive(Clone, Copy)]
 pub enum WidthsAnswer {
     Read(Widths),
     Refused(Refusal),
@@ -425,14 +427,14 @@ fn is_size(format: Format, n: u32) -> bool
     }
 }
 
-#[derive(Drop)]
+#[derive(Clone, Copy)]
 pub enum TablesAnswer {
     Listed(Tables),
     Unlisted,
 }
 
 // The underflow table of a count, a width and a baseline.
-#[derive(Drop)]
+#[derive(Clone, Copy)]
 pub enum UnderflowsAnswer {
     Listed(Underflows),
     Unlisted,
@@ -503,7 +505,7 @@ fn tables_from(counts: Counts, width: u32, baseline: u32) -> TablesAnswer
 }
 
 // The numbers of the header's lines, before their ranges are judged.
-#[derive(Drop)]
+#[derive(Clone, Copy)]
 pub struct Numbers {
     pub counts: Counts,
     pub widths: Widths,
@@ -512,7 +514,7 @@ pub struct Numbers {
     pub baseline: u32,
 }
 
-#[derive(Drop)]
+#[derive(Clone, Copy)]
 pub enum HeaderAnswer {
     Accepted(Header),
     Refused(Refusal),

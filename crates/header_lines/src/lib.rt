@@ -1,16 +1,18 @@
 // The lines of a header that are read: found by position, guarded by name.
+#![tactic(auto)]
+
 ghost use Rattle.std.specs.Prelude.{◌≡◌, ◌<◌, drop};
 ghost use Rattle.header_lines.specs.Lines.{index_of, line_of, position_of, starts_with, place_of};
 
 // A line's position, counted from 0, and the eight bytes of its name.
-#[derive(Drop)]
+#[derive(Clone, Copy)]
 pub struct Line {
     pub position: u32,
     pub name: [u8; 8],
 }
 
 // The lines of the table, by their names.
-#[derive(Drop)]
+#[derive(Clone, Copy)]
 pub enum LineId {
     Format,
     Version,
@@ -113,7 +115,7 @@ fn starts_with(name: [u8; 8], s: &[u8], from: usize) -> bool
 }
 
 // Where a line's data starts, if the line stands in the header.
-#[derive(Drop)]
+#[derive(Clone, Copy)]
 pub enum Place {
     At(usize),
     Wrong,

@@ -1,4 +1,6 @@
 // What a header says, as plain numbers.
+#![tactic(auto)]
+
 ghost use Rattle.std.specs.Prelude.{◌≡◌};
 ghost use Rattle.layout.specs.Form.{width_bytes, entry_bytes};
 ghost use Rattle.header.specs.Header.{header_of};
@@ -10,7 +12,7 @@ use refusal::Refusal;
 
 // refusal is 0 where the header is accepted; a field that does not apply is 0.
 #[repr(C)]
-#[derive(Drop)]
+#[derive(Clone, Copy)]
 pub struct HeaderReport {
     pub refusal: u32,
     pub place: u32,
@@ -29,7 +31,7 @@ pub struct HeaderReport {
     pub four: u32,
 }
 
-#[derive(Drop)]
+#[derive(Clone, Copy)]
 pub struct UnderflowReport {
     pub subtracted: u32,
     pub entry: u32,

@@ -1,4 +1,6 @@
 // The two header lines that a frame's counts and widths stand in: written, and compared with what would be written.
+#![tactic(auto)]
+
 ghost use Rattle.std.specs.Prelude.{◌≡◌, ◌++◌, ◌≤◌, length, drop, leb};
 ghost use Rattle.lists.specs.Choose.{if◌then◌else◌};
 ghost use Rattle.lists.specs.Text.{codes};
@@ -11,7 +13,7 @@ use header_lines::LineId;
 use layout::{Form, Underflow, Width};
 
 // How many pixels underflow, and how many are 255 and 65535 above the baseline.
-#[derive(Drop)]
+#[derive(Clone, Copy)]
 pub struct Counts {
     pub under: u32,
     pub two: u32,

@@ -1,6 +1,8 @@
 // Header cases from standard input, one to a row: how many bytes are given, then the data of the nine lines of the header's
 // table, with | between them. A value that starts with ! stands under a wrong name. Each header is made, read by the proved
 // function, and its answer printed behind the row. A row that starts with # is a heading.
+#![tactic(auto)]
+
 ghost use Rattle.std.specs.Prelude.{◌≤◌, length};
 
 use header::HeaderAnswer;

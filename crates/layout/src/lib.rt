@@ -1,10 +1,12 @@
 // What a header says of a frame's parts: the form, the image and the tables.
+#![tactic(auto)]
+
 ghost use Rattle.std.specs.Prelude.{◌≡◌};
 ghost use Rattle.layout.specs.Form.{width_bytes, entry_bytes, entry_width, underflow_bytes, width_from, entry_from};
 ghost use Rattle.layout.specs.Layout.{pixel_count, table_bytes, text_table_bytes};
 
 // The bytes of a stored pixel or of a table's entry.
-#[derive(Drop)]
+#[derive(Clone, Copy)]
 pub enum Width {
     One,
     Two,
@@ -12,28 +14,28 @@ pub enum Width {
 }
 
 // The bytes of an underflow entry.
-#[derive(Drop)]
+#[derive(Clone, Copy)]
 pub enum EntryWidth {
     One,
     Two,
 }
 
 // Whether the baseline is subtracted, and then the width of an underflow entry.
-#[derive(Drop)]
+#[derive(Clone, Copy)]
 pub enum Underflow {
     None,
     Subtracted(EntryWidth),
 }
 
 // The pixel width together with the underflow kind: document 01's form of a frame.
-#[derive(Drop)]
+#[derive(Clone, Copy)]
 pub struct Form {
     pub width: Width,
     pub underflow: Underflow,
 }
 
 // The image: it starts where the header ends.
-#[derive(Drop)]
+#[derive(Clone, Copy)]
 pub struct Image {
     pub start: u32,
     pub rows: u32,
@@ -42,7 +44,7 @@ pub struct Image {
 }
 
 // The underflow table of FORMAT 100: a count of -1; a count of 0 with an underflow width of 0; a count with a width.
-#[derive(Drop)]
+#[derive(Clone, Copy)]
 pub enum Underflows {
     Unused,
     NoWidth {
@@ -56,21 +58,21 @@ pub enum Underflows {
 }
 
 // The tables of FORMAT 100.
-#[derive(Drop)]
+#[derive(Clone, Copy)]
 pub struct BinaryTables {
     pub underflows: Underflows,
     pub two: u32,
     pub four: u32,
 }
 
-#[derive(Drop)]
+#[derive(Clone, Copy)]
 pub enum Tables {
     Format86 { entries: u32 },
     Format100(BinaryTables),
 }
 
 // An accepted header's numbers.
-#[derive(Drop)]
+#[derive(Clone, Copy)]
 pub struct Header {
     pub image: Image,
     pub tables: Tables,
@@ -114,7 +116,7 @@ pub fn underflow_bytes(u: Underflow) -> u32
     }
 }
 
-#[derive(Drop)]
+#[derive(Clone, Copy)]
 pub enum WidthAnswer {
     Listed(Width),
     Unlisted,
@@ -132,7 +134,7 @@ pub fn width_from(bytes: u32) -> WidthAnswer
     }
 }
 
-#[derive(Drop)]
+#[derive(Clone, Copy)]
 pub enum EntryAnswer {
     Listed(EntryWidth),
     Unlisted,

@@ -1,4 +1,6 @@
 // The ledger: its lines in bytes, which of them stand, keep entries and purge questions.
+#![tactic(auto)]
+
 ghost use Rattle.std.specs.Prelude.{◌≡◌, ◌++◌, ℕ, ◌+◌, ◌*◌, ◌/◌, ◌%◌, ◌^◌, ◌<◌, ◌≤◌, length, take, drop};
 ghost use Rattle.lists.specs.Bytes.{big, big_bytes};
 ghost use Rattle.ledger.specs.Lines.{kind_number, kind_from, is_no_date, no_counts, right_for, fields_of, line_from, line_of, line_number, bytes_at};
@@ -9,7 +11,7 @@ ghost use Rattle.ledger.specs.Survey.{number_else, scan_back, found_at};
 use calendar::Date;
 use refusal::Refusal;
 
-#[derive(Drop)]
+#[derive(Clone, Copy)]
 pub enum Kind {
     Correction,
     Keep,
@@ -17,7 +19,7 @@ pub enum Kind {
 }
 
 // A line. What its kind does not use is 0.
-#[derive(Drop)]
+#[derive(Clone, Copy)]
 pub struct Line {
     pub kind: Kind,
     pub date: Date,
@@ -26,54 +28,54 @@ pub struct Line {
     pub new: u32,
 }
 
-#[derive(Drop)]
+#[derive(Clone, Copy)]
 pub enum LineAnswer {
     WellFormed(Line),
     Malformed,
 }
 
 // A line that was looked for, with its index.
-#[derive(Drop)]
+#[derive(Clone, Copy)]
 pub enum Found {
     At { index: usize, line: Line },
     Nothing,
 }
 
 // What is looked for among the lines that stand: a keep line, or a correction of a pixel.
-#[derive(Drop)]
+#[derive(Clone, Copy)]
 pub enum Sought {
     Keep,
     Correction { pixel: u64 },
 }
 
 // Of the lines that stand: the last, the last of those that are looked for, and how many they are.
-#[derive(Drop)]
+#[derive(Clone, Copy)]
 pub struct Summary {
     pub last: Found,
     pub sought: Found,
     pub count: usize,
 }
 
-#[derive(Drop)]
+#[derive(Clone, Copy)]
 pub enum SurveyAnswer {
     Surveyed(Summary),
     Malformed,
 }
 
-#[derive(Drop)]
+#[derive(Clone, Copy)]
 pub enum LedgerAnswer {
     Accepted { lines: u64 },
     Refused(Refusal),
 }
 
-#[derive(Drop)]
+#[derive(Clone, Copy)]
 pub enum PurgeAnswer {
     Allowed,
     Refused(Refusal),
 }
 
 // What a survey knows on its way from the last line back to the first. Lines are noted by their number from 1, with 0 for none.
-#[derive(Drop)]
+#[derive(Clone, Copy)]
 struct Scan {
     pub skip: usize,
     pub count: usize,

@@ -1,4 +1,6 @@
 // Prints the listing of the ledger that it reads from standard input.
+#![tactic(auto)]
+
 use libc::{STDIN_FILENO, STDOUT_FILENO};
 use listing::ListAnswer;
 

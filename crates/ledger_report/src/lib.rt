@@ -1,4 +1,6 @@
 // Answers on a ledger as plain numbers.
+#![tactic(auto)]
+
 ghost use Rattle.std.specs.Prelude.{◌≡◌};
 ghost use Rattle.ledger_report.specs.Report.{ledger_result, purge_result, day_result, pixel_result, list_result};
 
@@ -9,7 +11,7 @@ use why::{DayAnswer, PixelAnswer};
 
 // refusal is 0 where the call is accepted.
 #[repr(C)]
-#[derive(Drop)]
+#[derive(Clone, Copy)]
 pub struct LedgerResult {
     pub refusal: u32,
     pub lines: u64,
@@ -17,14 +19,14 @@ pub struct LedgerResult {
 
 // line is 0 where no line is named.
 #[repr(C)]
-#[derive(Drop)]
+#[derive(Clone, Copy)]
 pub struct WhyResult {
     pub refusal: u32,
     pub line: u64,
 }
 
 #[repr(C)]
-#[derive(Drop)]
+#[derive(Clone, Copy)]
 pub struct ListResult {
     pub short: u32,
     pub length: u64,

@@ -1,4 +1,6 @@
 // The ledger's trials: prints the refusal number, or 0, that each call gives.
+#![tactic(auto)]
+
 use calendar::Date;
 use ledger::{LedgerAnswer, PurgeAnswer};
 use libc::STDOUT_FILENO;

@@ -1,11 +1,13 @@
 // A reader that holds a line and the place in it after the last field taken. The borrow checker covers no function over such a
 // struct, so each is walked by hand; it takes the struct apart and leaves the work to a covered function.
+#![tactic(auto)]
+
 ghost use Rattle.std.specs.Prelude.{◌≡◌};
 ghost use Rattle.field.specs.Fields.{field_from, number_field};
 
 use field::{Cursor, Field, NumberField};
 
-#[derive(Drop)]
+#[derive(Clone, Copy)]
 pub struct LineReader<'a> {
     pub line: &'a [u8],
     pub at: usize,

@@ -1,6 +1,8 @@
 // The text of a ledger's listing.
 //
 // A line is cancelled by lines after it, so the text is written from its last line to its first, and stands at the buffer's end.
+#![tactic(auto)]
+
 ghost use Rattle.std.specs.Prelude.{◌≡◌, false, ◌++◌, ◌+◌, ◌*◌, ◌/◌, ◌^◌, ◌<◌, ◌≤◌, length};
 ghost use Rattle.ledger.specs.Lines.{lines_of, some_malformed};
 ghost use Rattle.listing.specs.Writing.{Wrote};
@@ -10,14 +12,14 @@ ghost use Rattle.lists.specs.Digits.{decimal};
 use calendar::Date;
 use ledger::{Kind, Line, LineAnswer, SurveyAnswer};
 
-#[derive(Drop)]
+#[derive(Clone, Copy)]
 pub enum ListAnswer {
     // The text is the last `used` bytes of the buffer.
     Listed { used: usize },
     TooShort,
 }
 
-#[derive(Drop)]
+#[derive(Clone, Copy)]
 struct Step {
     pub cancelled: bool,
     pub skip: usize,

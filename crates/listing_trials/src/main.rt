@@ -1,4 +1,6 @@
 // The listing's trials: the length of the text, and its last bytes.
+#![tactic(auto)]
+
 use libc::STDOUT_FILENO;
 use listing::ListAnswer;
 

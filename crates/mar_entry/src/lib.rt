@@ -1,4 +1,6 @@
 // A question for one of the 25 entries of a mar header record.
+#![tactic(auto)]
+
 ghost use Rattle.std.specs.Prelude.{◌≡◌};
 ghost use Rattle.std.specs.Float.{binary32};
 ghost use Rattle.std.specs.Float.Ieee.{of_bits};
@@ -9,13 +11,13 @@ use mar_header::MarHeaderAnswer;
 use refusal::Refusal;
 
 // An unsigned number, or a single-precision float with its bits as stored.
-#[derive(Drop)]
+#[derive(Clone, Copy)]
 pub enum EntryValue {
     Whole(u32),
     Float { bits: u32, value: f32 },
 }
 
-#[derive(Drop)]
+#[derive(Clone, Copy)]
 pub enum MarEntryAnswer {
     Value(EntryValue),
     Refused(Refusal),

@@ -1,4 +1,6 @@
 // The header record of a mar image plate: its size, its byte order and how many high-intensity pairs there are.
+#![tactic(auto)]
+
 ghost use Rattle.std.specs.Prelude.{◌≡◌};
 ghost use Rattle.mar_header.specs.Plate.{side_pixels, side_from, records_for};
 ghost use Rattle.mar_header.specs.MarHeader.{start_by, start_of, consistent, plate_header, mar_header};
@@ -7,33 +9,33 @@ use byte_order::ByteOrder;
 use refusal::Refusal;
 
 // 1200 or 2000 pixels.
-#[derive(Drop)]
+#[derive(Clone, Copy)]
 pub enum Side {
     Small,
     Large,
 }
 
-#[derive(Drop)]
+#[derive(Clone, Copy)]
 pub enum SideAnswer {
     Listed(Side),
     Unlisted,
 }
 
 // What the first number says.
-#[derive(Drop)]
+#[derive(Clone, Copy)]
 pub enum Start {
     Plate { order: ByteOrder, side: Side },
     Unknown,
 }
 
-#[derive(Drop)]
+#[derive(Clone, Copy)]
 pub struct MarHeader {
     pub order: ByteOrder,
     pub side: Side,
     pub pairs: u32,
 }
 
-#[derive(Drop)]
+#[derive(Clone, Copy)]
 pub enum MarHeaderAnswer {
     Accepted(MarHeader),
     Refused(Refusal),

@@ -1,4 +1,6 @@
 // Reading an uncompressed mar image plate: any bytes give pixels or one refusal.
+#![tactic(auto)]
+
 ghost use Rattle.std.specs.Prelude.{◌≡◌, ◌+◌, ◌*◌, ◌≤◌, length, drop};
 ghost use Rattle.byte_order.specs.Numbers.{numbers};
 ghost use Rattle.marks.specs.Steps.{placing, placed};
@@ -12,7 +14,7 @@ use marks::{Checked, Entry};
 use refusal::Refusal;
 
 // The pixels of a side, and the place where the last record ends; or why there is no image.
-#[derive(Drop)]
+#[derive(Clone, Copy)]
 pub enum MarAnswer {
     Plate { side: u32, end: u64 },
     Refused(Refusal),

@@ -1,4 +1,6 @@
 // Answers on a mar image plate as plain numbers.
+#![tactic(auto)]
+
 ghost use Rattle.std.specs.Prelude.{◌≡◌};
 ghost use Rattle.mar_report.specs.Report.{mar_read_result, value_result, mar_entry_result};
 
@@ -8,7 +10,7 @@ use mar_image::MarAnswer;
 
 // refusal is 0 where the entry is answered. Every field that a case does not name is 0.
 #[repr(C)]
-#[derive(Drop)]
+#[derive(Clone, Copy)]
 pub struct MarEntryResult {
     pub refusal: u32,
     pub is_float: u32,

@@ -1,5 +1,7 @@
 // Trials of mar header records: prints what each question for an entry answers, and what reading answers and leaves in a short array.
 // Whole images do not fit a program's stack: the second reader has their trials.
+#![tactic(auto)]
+
 ghost use Rattle.std.specs.Prelude.{◌≤◌};
 
 use byte_order::ByteOrder;

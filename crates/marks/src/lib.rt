@@ -1,4 +1,6 @@
 // Entries for the marked pixels of an image.
+#![tactic(auto)]
+
 ghost use Rattle.std.specs.Prelude.{◌≡◌};
 ghost use Rattle.lists.specs.Choose.{if◌then◌else◌};
 ghost use Rattle.marks.specs.Steps.{takes, put};
@@ -6,14 +8,14 @@ ghost use Rattle.marks.specs.Steps.{takes, put};
 use refusal::Refusal;
 
 // An entry of a table: the intensity of a pixel, by its number from 0.
-#[derive(Drop)]
+#[derive(Clone, Copy)]
 pub enum Entry {
     Read { intensity: u32, pixel: u32 },
     Malformed,
 }
 
 // Whether the entries may stand.
-#[derive(Drop)]
+#[derive(Clone, Copy)]
 pub enum Checked {
     Good,
     Refused(Refusal),

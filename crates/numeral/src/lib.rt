@@ -1,10 +1,12 @@
 // Numbers written in characters: a header's numbers, its version and its decimal numbers.
+#![tactic(auto)]
+
 ghost use Rattle.std.specs.Prelude.{◌≡◌};
 ghost use Rattle.numeral.specs.Runs.{in_class, passed};
 ghost use Rattle.numeral.specs.Numerals.{is_whole, fraction_is_zero, is_minus_one, number_from, number_of, version_of, decimal_is};
 
 // A kind of character.
-#[derive(Drop)]
+#[derive(Clone, Copy)]
 pub enum Class {
     Space,
     Other,
@@ -43,7 +45,7 @@ pub fn run_end(class: Class, text: &[u8], at: usize) -> usize
     i
 }
 
-#[derive(Drop)]
+#[derive(Clone, Copy)]
 pub enum Number {
     Value(u32),
     NotANumber,

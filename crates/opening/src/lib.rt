@@ -1,4 +1,6 @@
 // Opening: a frame read, and held in the form asked for or in the smallest.
+#![tactic(auto)]
+
 ghost use Rattle.std.specs.Prelude.{◌≡◌, length};
 ghost use Rattle.writer.specs.declared.AskedForm.TheVariants.{Listed};
 ghost use Rattle.writer.specs.Writer.{write_answer, write_bytes};
@@ -11,7 +13,7 @@ use refusal::Refusal;
 use writer::{AskedForm, WriteAnswer};
 
 // The frame read and the length of the frame held; or why there is none, with the frame read where only the writing is refused.
-#[derive(Drop)]
+#[derive(Clone, Copy)]
 pub enum OpenAnswer {
     Opened {
         rows: u32,
@@ -29,7 +31,7 @@ pub enum OpenAnswer {
 }
 
 // An opening in the smallest form. Where nothing is held, the form stands for nothing.
-#[derive(Drop)]
+#[derive(Clone, Copy)]
 pub struct FormOpened {
     pub form: Form,
     pub answer: OpenAnswer,

@@ -1,1 +1,2 @@
 // Theorems about lists of corrections: no function.
+#![tactic(auto)]

@@ -1,4 +1,6 @@
 // FORMAT 86: the pixels of a frame whose large intensities stand in a table of text.
+#![tactic(auto)]
+
 ghost use Rattle.std.specs.Prelude.{◌≡◌, map, ◌+◌, ◌*◌, ◌≤◌, ◌<◌, ltb, length, drop};
 ghost use Rattle.lists.specs.Choose.{if◌then◌else◌};
 ghost use Rattle.layout.specs.Form.{width_bytes};
@@ -13,14 +15,14 @@ use marks::{Checked, Entry};
 use refusal::Refusal;
 
 // A number of an entry.
-#[derive(Drop)]
+#[derive(Clone, Copy)]
 pub enum Number {
     Value(u32),
     Malformed,
 }
 
 // The place where the frame ends, or why there is none.
-#[derive(Drop)]
+#[derive(Clone, Copy)]
 pub enum Expanded86 {
     Frame { end: u64 },
     Refused(Refusal),

@@ -1,4 +1,6 @@
 // The C interface: the library's functions under fixed names, with answers as plain numbers.
+#![tactic(auto)]
+
 ghost use Rattle.std.specs.Prelude.{◌≡◌, length};
 ghost use Rattle.header.specs.Header.{header_of};
 ghost use Rattle.header_report.specs.Report.{header_report};

@@ -1,1 +1,2 @@
 // The read-back theorem: proofs/ReadBack.antt. No code.
+#![tactic(auto)]

@@ -1,4 +1,6 @@
 // Reading a frame of FORMAT 100 or 86: any bytes give pixels or one refusal.
+#![tactic(auto)]
+
 ghost use Rattle.std.specs.Prelude.{◌≡◌, length};
 ghost use Rattle.reader.specs.Reader.{binary_frame, text_frame, frame_answer, frame_pixels, read_answer, read_pixels};
 
@@ -9,7 +11,7 @@ use overflow86::Expanded86;
 use refusal::Refusal;
 
 // The rows and columns, and the place where the frame ends; or why there is no frame.
-#[derive(Drop)]
+#[derive(Clone, Copy)]
 pub enum ReadAnswer {
     Frame { rows: u32, columns: u32, end: u64 },
     Refused(Refusal),

@@ -2,6 +2,8 @@
 // NEXP, and the bytes behind the header, with | between them. The bytes are numbers; z12 is twelve zeros, and characters stand
 // between quotes. Each frame is made, read by the proved function into an array of nines, and the answer printed with the array.
 // A row that starts with # is a heading.
+#![tactic(auto)]
+
 ghost use Rattle.std.specs.Prelude.{◌≡◌, ◌+◌, ◌≤◌, ◌<◌, length};
 
 use libc::{STDIN_FILENO, STDOUT_FILENO};
@@ -74,7 +76,7 @@ fn line_start(k: usize) -> usize
 }
 
 // Some bytes written and some characters of the row read.
-#[derive(Drop)]
+#[derive(Clone, Copy)]
 struct Step {
     pub at: usize,
     pub next: usize,

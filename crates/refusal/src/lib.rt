@@ -1,9 +1,11 @@
 // Why a call is refused.
+#![tactic(auto)]
+
 ghost use Rattle.std.specs.Prelude.{◌≡◌};
 ghost use Rattle.refusal.specs.Codes.{refusal_number, refusal_place, code_of};
 
 // One case for each number of document 01's table and of document 02's requests, in their order; specs/Codes.antt gives the numbers.
-#[derive(Drop)]
+#[derive(Clone, Copy)]
 pub enum Refusal {
     HeaderTruncated,
     WrongName,
@@ -46,7 +48,7 @@ pub enum Refusal {
 }
 
 // What a caller outside sees of a refusal: its number, and the header line or the entry's place that goes with it.
-#[derive(Drop)]
+#[derive(Clone, Copy)]
 pub struct Code {
     pub number: u32,
     pub place: u32,

@@ -1,4 +1,6 @@
 // One pixel of a held frame replaced in place.
+#![tactic(auto)]
+
 ghost use Rattle.std.specs.Prelude.{◌≡◌, [], ◌∷◌, false, not, ◌+◌, ◌-◌, ◌*◌, ◌^◌, ◌≤◌, ◌<◌, length, leb, ltb};
 ghost use Rattle.lists.specs.Choose.{if◌then◌else◌};
 ghost use Rattle.lists.specs.Bytes.{padded_to};
@@ -15,21 +17,21 @@ use layout::{EntryWidth, Form, Underflow, Width};
 use refusal::Refusal;
 
 // What the pixel must hold for its count to be replaced.
-#[derive(Drop)]
+#[derive(Clone, Copy)]
 pub enum Expected {
     Any,
     Exactly(u32),
 }
 
 // The count that the pixel held, or 19, 24, 23, 17 or 18.
-#[derive(Drop)]
+#[derive(Clone, Copy)]
 pub enum Replaced {
     Done { old: u32 },
     Refused(Refusal),
 }
 
 // A pixel's entry in a table, in bytes: the table's, those before the entry, its own, and the number that comes in its place.
-#[derive(Drop)]
+#[derive(Clone, Copy)]
 struct Cut {
     n: usize,
     before: usize,

@@ -1,4 +1,6 @@
 // A list of calls on a held frame and its ledger, made one after the other.
+#![tactic(auto)]
+
 ghost use Rattle.std.specs.Prelude.{◌≡◌, map, ◌++◌, length, drop};
 ghost use Rattle.model.specs.Run.{state_of, step};
 ghost use Rattle.replay.specs.Replay.{ledger_reply, purge_reply, reply_of, call_of, call_count, played, answer_numbers};
@@ -7,7 +9,7 @@ use calendar::Date;
 use ledger::{LedgerAnswer, PurgeAnswer};
 
 // What a call gave: 0 or the refusal's number, and the number of lines after it.
-#[derive(Drop)]
+#[derive(Clone, Copy)]
 struct Reply {
     refusal: u32,
     lines: u64,

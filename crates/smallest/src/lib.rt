@@ -1,4 +1,6 @@
 // Which form is smallest: the first of the shortest among those that the writer accepts.
+#![tactic(auto)]
+
 ghost use Rattle.std.specs.Prelude.{◌≡◌, length};
 ghost use Rattle.header.specs.Header.{header_of};
 ghost use Rattle.header.specs.declared.HeaderAnswer.TheVariants.{Accepted};

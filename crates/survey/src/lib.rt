@@ -1,4 +1,6 @@
 // One pass over the pixels that counts what all nine forms need.
+#![tactic(auto)]
+
 ghost use Rattle.std.specs.Prelude.{◌≡◌, ◌^◌, ◌<◌, ◌≤◌, length, ltb};
 ghost use Rattle.lists.specs.Choose.{if◌then◌else◌};
 ghost use Rattle.layout.specs.Form.{form_of};
@@ -10,7 +12,7 @@ ghost use Rattle.survey.specs.Survey.{no_survey, surveyed, surveyed_none, survey
 use header_text::Counts;
 
 // The entries without the baseline and with it, and whether an underflow entry is above 255.
-#[derive(Drop)]
+#[derive(Clone, Copy)]
 pub struct Survey {
     pub none: Counts,
     pub subtracted: Counts,
@@ -18,7 +20,7 @@ pub struct Survey {
 }
 
 // How many numbers are above each of two limits.
-#[derive(Drop)]
+#[derive(Clone, Copy)]
 struct Pair {
     first: u32,
     second: u32,
@@ -48,7 +50,7 @@ fn count_pair(block: &[u32], a: u32, b: u32) -> Pair
 }
 
 // How many numbers are above 254, 65534, a baseline, and 254 (lower) and 65534 (lowest) more than that.
-#[derive(Drop)]
+#[derive(Clone, Copy)]
 struct Limits {
     two: u32,
     four: u32,

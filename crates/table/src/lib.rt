@@ -1,4 +1,6 @@
 // Reading and writing tables, once over the width of an entry.
+#![tactic(auto)]
+
 ghost use Rattle.std.specs.Prelude.{◌≡◌, ◌+◌, ◌*◌, ◌/◌, ◌≤◌, [], ◌∷◌, ◌++◌, map, length, take, drop, replicate, nat_le, slice_index};
 ghost use Rattle.lists.specs.Choose.{if◌then◌else◌};
 ghost use Rattle.lists.specs.Bytes.{little, little_bytes, zeros, over};

@@ -1,4 +1,6 @@
 // How many entries of a table are 0, are a mark, and lie outside a range.
+#![tactic(auto)]
+
 ghost use Rattle.std.specs.Prelude.{◌≡◌, ◌&&◌, ◌+◌, ◌*◌, ◌/◌, ◌^◌, ◌<◌, ◌≤◌, length, eqb, leb};
 ghost use Rattle.lists.specs.Choose.{if◌then◌else◌};
 ghost use Rattle.layout.specs.Form.{width_bytes};
@@ -8,7 +10,7 @@ ghost use Rattle.tally.specs.Tally.{is_outside, tally_of, tally_more, bytes_tall
 
 use layout::Width;
 
-#[derive(Drop)]
+#[derive(Clone, Copy)]
 pub struct Tally {
     pub zeros: usize,
     pub marks: usize,

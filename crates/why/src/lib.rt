@@ -1,4 +1,6 @@
 // Why a frame may be purged or not, and why a pixel has its count: the ledger's line that decides.
+#![tactic(auto)]
+
 ghost use Rattle.std.specs.Prelude.{◌≡◌};
 ghost use Rattle.why.specs.Why.{day_reason, pixel_reason};
 
@@ -7,14 +9,14 @@ use ledger::{Found, Line, Sought, SurveyAnswer};
 use refusal::Refusal;
 
 // A line by its number in the listing, from 1.
-#[derive(Drop)]
+#[derive(Clone, Copy)]
 pub struct Numbered {
     pub number: u64,
     pub line: Line,
 }
 
 // For a day: yes or not yet by a keep line.
-#[derive(Drop)]
+#[derive(Clone, Copy)]
 pub enum DayAnswer {
     Allowed(Numbered),
     NotYet(Numbered),
@@ -22,7 +24,7 @@ pub enum DayAnswer {
 }
 
 // For a pixel: by a correction, or by none.
-#[derive(Drop)]
+#[derive(Clone, Copy)]
 pub enum PixelAnswer {
     Corrected(Numbered),
     AsOpened,

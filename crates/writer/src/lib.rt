@@ -1,4 +1,6 @@
 // Writing a frame of FORMAT 100.
+#![tactic(auto)]
+
 ghost use Rattle.std.specs.Prelude.{◌≡◌, ◌+◌, ◌-◌, ◌*◌, ◌^◌, ◌<◌, ◌≤◌, true, false, [], ◌∷◌, ◌++◌, map, length, take, drop, nat_le};
 ghost use Rattle.lists.specs.Choose.{if◌then◌else◌};
 ghost use Rattle.lists.specs.Bytes.{zeros, held_bytes, over};
@@ -23,35 +25,35 @@ use layout::{EntryWidth, Form, Header, Tables, Underflow, Underflows, Width};
 use refusal::Refusal;
 
 // The form asked for, or that no listed form was.
-#[derive(Drop)]
+#[derive(Clone, Copy)]
 pub enum AskedForm {
     Listed(Form),
     Unlisted,
 }
 
 // The bytes of the frame written, or why there is none.
-#[derive(Drop)]
+#[derive(Clone, Copy)]
 pub enum WriteAnswer {
     Written { length: u64 },
     Refused(Refusal),
 }
 
 // A baseline, or none that serves.
-#[derive(Drop)]
+#[derive(Clone, Copy)]
 pub enum BaseAnswer {
     Given(u32),
     Missing,
 }
 
 // The pixels from low to low + span.
-#[derive(Drop)]
+#[derive(Clone, Copy)]
 struct Range {
     low: u32,
     span: u32,
 }
 
 // Where the next stored values and entries go.
-#[derive(Drop)]
+#[derive(Clone, Copy)]
 struct Places {
     image: usize,
     under: usize,

@@ -4,6 +4,8 @@
 // printed behind the row: the refusal, and whether the output is untouched; or the frame's length, the data of its two lines,
 // the bytes behind its header, whether the rest is right, and what comes of reading it and writing it again. A row that starts
 // with # is a heading.
+#![tactic(auto)]
+
 ghost use Rattle.std.specs.Prelude.{◌≡◌, ◌+◌, ◌≤◌, ◌<◌, length};
 
 use header::HeaderAnswer;

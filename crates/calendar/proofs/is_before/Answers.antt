@@ -1,0 +1,15 @@
+use Rattle.calendar.specs.Calendar.{before}
+use borrow.Author.Tests.{eq-eqb, ne_eqb}
+use Rattle.calendar.proofs.is_before.Goals as goal
+
+pub returns-then-a-b : goal.returns-then-a-b
+unfolding before
+returns-then-a-b c = rw (ne_eqb _ _ c.if-a-b.true)
+
+pub returns-then-a-b-2 : goal.returns-then-a-b-2
+unfolding before
+returns-then-a-b-2 c = rw (eq-eqb _ _ c.if-a-b.false, ne_eqb _ _ c.if-a-b-2.true)
+
+pub returns : goal.returns
+unfolding before
+returns c = rw (eq-eqb _ _ c.if-a-b.false, eq-eqb _ _ c.if-a-b-2.false)

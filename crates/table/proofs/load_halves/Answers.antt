@@ -1,0 +1,19 @@
+use Rattle.std.proofs.Common.{length, mul-le-mul_left, arith, le-leb}
+use borrow.Author.Tests.{lt-leb}
+use Rattle.layout.proofs.Laws.{width-le}
+use Rattle.table.proofs.load_halves.Goals as goal
+
+pub overflow_mul-end : goal.overflow_mul-end
+overflow_mul-end c = let s = c in
+    rw c.width_bytes.ensures (omega (arith, mul-le-mul_left (length s.args.out.now) (width-le s.args.w)))
+
+pub returns-then-t-end : goal.returns-then-t-end
+returns-then-t-end c = let e = lt-leb _ _ c.if-t-end.true in
+    let w = c.width_bytes.ensures in record { value = rw (← w, e); out_after = rw (← w, e) }
+
+pub load_both-requires : goal.load_both-requires
+load_both-requires c = rw c.width_bytes.ensures at c.if-t-end.false
+
+pub returns : goal.returns
+returns c = let w = c.width_bytes.ensures in
+    let e = le-leb _ _ (rw w at c.if-t-end.false) in record { value = rw e; out_after = rw e c.load_both.ensures }
