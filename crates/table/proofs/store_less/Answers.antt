@@ -43,7 +43,7 @@ loop-i-preserved c = let inside : c.loop-i.at + c.width_bytes-each.result ≤ le
     let more = c.loop-i-test.true in
     let less = c.wrapping_sub_u32 in
     storing-more less.result l.invariant (rw length-map more) (inside)
-    (less-wrapped _ _ _ less.type_inv s.ranges.base.fits less.ensures ∙ sym (map_at (less_wrapped s.args.base) s.args.values.now l.i more))
+    (less-wrapped _ _ _ less.type_inv s.ranges.base.fits less.ensures.value ∙ sym (map_at (less_wrapped s.args.base) s.args.values.now l.i more))
     c.put_le.ensures
 
 pub shape_of-out : goal.shape_of-out
