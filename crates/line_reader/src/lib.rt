@@ -1,5 +1,5 @@
-// A reader that holds a line and the place in it after the last field taken. The borrow checker covers no function over such a
-// struct, so each is walked by hand; it takes the struct apart and leaves the work to a covered function.
+// A reader that holds a line and the place in it after the last field taken. It takes the struct apart and leaves the work to a
+// function on a slice and a number.
 #![tactic(auto)]
 
 ghost use Rattle.std.specs.Prelude.{◌≡◌};
@@ -49,7 +49,7 @@ impl<'a> LineReader<'a> {
     }
 }
 
-// What stands next in a line, from the place at on. The parameters are plain, so the callers need no walk.
+// What stands next in a line, from the place at on. The parameters are plain.
 pub fn field_at(line: &[u8], at: usize) -> Field
     ensures { result ≡ field_from line.now at }
 {

@@ -1,2 +1,0 @@
-mod Answers
-mod Walks
