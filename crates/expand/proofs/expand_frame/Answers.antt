@@ -1,5 +1,4 @@
 use Rattle.std.proofs.Common.{sym, ap, ◌∙◌, arith}
-use borrow.Author.Tests.{not-true, not-false}
 use Rattle.lists.specs.Bytes.{zeros}
 use Rattle.expand.proofs.Parts.{inside, image-fits, padding-is, answer-is, pixels-are}
 use Rattle.expand.proofs.expand_frame.Goals as goal
@@ -9,7 +8,7 @@ paddings_zero-requires c = omega (arith, inside c.args.image c.args.tables c.req
 
 pub returns-then-not-paddings_zero : goal.returns-then-not-paddings_zero
 returns-then-not-paddings_zero c = let s = c in
-    let x = sym (padding-is s.args.image s.args.tables s.args.bytes.now s.requires.0) ∙ sym c.paddings_zero.ensures ∙ not-true c.paddings_zero.result c.if-not-paddings_zero.true in record { value = rw x; pixels_after = rw x (c.clear.ensures ∙ ap zeros s.requires.2) }
+    let x = sym (padding-is s.args.image s.args.tables s.args.bytes.now s.requires.0) ∙ sym c.paddings_zero.ensures ∙ c.if-not-paddings_zero.true in record { value = rw x; pixels_after = rw x (c.clear.ensures ∙ ap zeros s.requires.2) }
 
 pub slice_bounds-expand_parts-count : goal.slice_bounds-expand_parts-count
 slice_bounds-expand_parts-count c = omega (arith, inside c.args.image c.args.tables c.requires.0 c.requires.1)
@@ -55,5 +54,5 @@ returns c = let s = c in
     let i = s.args.image in
     let t = s.args.tables in
     let b = s.args.bytes.now in
-    let x = sym (padding-is i t b s.requires.0) ∙ sym c.paddings_zero.ensures ∙ not-false c.paddings_zero.result c.if-not-paddings_zero.false in
+    let x = sym (padding-is i t b s.requires.0) ∙ sym c.paddings_zero.ensures ∙ c.if-not-paddings_zero.false in
     let e = c.expand_parts.ensures in record { value = rw x (e.value ∙ answer-is i t b s.requires.0 c.step_of-c.ensures s.requires.2 s.requires.1); pixels_after = rw x (e.pixels_after ∙ pixels-are i t b s.requires.0 c.step_of-c.ensures s.requires.2 s.requires.1) }

@@ -9,7 +9,7 @@ pub overflow_cast-image : goal.overflow_cast-image
 overflow_cast-image c = omega (arith, c.shared_slice_known-in-loop-i-1.given c.loop-i.i)
 
 pub loop-i-preserved : goal.loop-i-preserved
-loop-i-preserved c = copying-more c.loop-i.invariant c.loop-i-test.true (omega arith) c.wrapping_add_u32.ensures
+loop-i-preserved c = copying-more c.loop-i.invariant c.loop-i-test.true (omega arith) c.wrapping_add_u32.ensures.value
 
 pub shape_of-pixels : goal.shape_of-pixels
 shape_of-pixels c = c.loop-i.invariant.same

@@ -1,5 +1,5 @@
 use Rattle.std.proofs.Common.{ap, arith, le-leb}
-use borrow.Author.Tests.{lt-leb, not-true, not-false}
+use borrow.Author.Tests.{lt-leb}
 use Rattle.expand.specs.Expand.{parts_whole}
 use Rattle.expand.specs.declared.PartsAnswer.TheVariants.{At}
 use Rattle.expand.proofs.Parts.{inside, padding-is, end_is}
@@ -20,9 +20,9 @@ paddings_zero-requires c = let s = c.args in
 pub returns-then-not-paddings_zero : goal.returns-then-not-paddings_zero
 unfolding parts_whole
 returns-then-not-paddings_zero c = let s = c.args in
-    rw (le-leb _ _ (rw c.pixel_count-n.ensures at c.if-n-gt4294967296.false), le-leb _ _ (rw (end_is c.args.image c.args.tables c.places_of-p.ensures) at c.if-bytes-end.false), ← padding-is s.image s.tables s.bytes.now c.places_of-p.ensures, ← c.paddings_zero.ensures, not-true c.paddings_zero.result c.if-not-paddings_zero.true)
+    rw (le-leb _ _ (rw c.pixel_count-n.ensures at c.if-n-gt4294967296.false), le-leb _ _ (rw (end_is c.args.image c.args.tables c.places_of-p.ensures) at c.if-bytes-end.false), ← padding-is s.image s.tables s.bytes.now c.places_of-p.ensures, ← c.paddings_zero.ensures, c.if-not-paddings_zero.true)
 
 pub returns : goal.returns
 unfolding parts_whole
 returns c = let s = c.args in
-    rw (le-leb _ _ (rw c.pixel_count-n.ensures at c.if-n-gt4294967296.false), le-leb _ _ (rw (end_is c.args.image c.args.tables c.places_of-p.ensures) at c.if-bytes-end.false), ← padding-is s.image s.tables s.bytes.now c.places_of-p.ensures, ← c.paddings_zero.ensures, not-false c.paddings_zero.result c.if-not-paddings_zero.false) (ap At c.places_of-p.ensures)
+    rw (le-leb _ _ (rw c.pixel_count-n.ensures at c.if-n-gt4294967296.false), le-leb _ _ (rw (end_is c.args.image c.args.tables c.places_of-p.ensures) at c.if-bytes-end.false), ← padding-is s.image s.tables s.bytes.now c.places_of-p.ensures, ← c.paddings_zero.ensures, c.if-not-paddings_zero.false) (ap At c.places_of-p.ensures)

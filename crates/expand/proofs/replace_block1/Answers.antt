@@ -8,7 +8,7 @@ slice_bounds-has_byte-end c = sym (length-take-le _ _ c.requires.0)
 pub returns-then-has_byte : goal.returns-then-has_byte
 returns-then-has_byte c = let s = c in
     let e = loaded 1 (length s.args.pixels.now) s.args.image.now _ _ (omega (arith, s.requires.0)) c.load.ensures.out_after in
-    replaced-hit _ _ _ _ _ _ _ _ _ e c.fill_marked-two.ensures c.fill_some-four.ensures
+    replaced-hit _ _ _ _ _ _ _ _ _ e (c.fill_marked-two.ensures.value, c.fill_marked-two.ensures.pixels_after) (c.fill_some-four.ensures.value, c.fill_some-four.ensures.pixels_after)
 
 pub returns-else-has_byte : goal.returns-else-has_byte
 returns-else-has_byte c = let s = c in

@@ -38,7 +38,7 @@ pub bounds-image-q : goal.bounds-image-q
 bounds-image-q c = omega (arith, c.next_mark-q.ensures.upto)
 
 pub step_pixel-x-requires : goal.step_pixel-x-requires
-step_pixel-x-requires c = let l = c.loop-c in omega (arith, l.invariant.1.two-low, l.invariant.1.four_low, l.invariant.1.Under-low, c.next_mark-q.ensures.low, c.next_mark-q.ensures.upto)
+step_pixel-x-requires c = let l = c.loop-c in omega (arith, l.invariant.1.two-low, l.invariant.1.four_low, l.invariant.1.under_low, c.next_mark-q.ensures.low, c.next_mark-q.ensures.upto)
 
 pub offset_bounds-pixels-q : goal.offset_bounds-pixels-q
 offset_bounds-pixels-q c = let d = (done-run c.args.image.now c.loop-c.invariant.1 (omega (arith, c.requires.0)) c.requires.1 (λ i. omega (arith, c.shared_slice_known-1.given i)) c.next_mark-q.ensures c.run_end-end.ensures.1 (rw c.used_baseline-base.ensures at c.lift_bytes.ensures)) in let g = c.well_formed in omega (arith, done-reach d, c.next_mark-q.ensures.low, c.next_mark-q.ensures.upto, c.run_end-end.ensures)

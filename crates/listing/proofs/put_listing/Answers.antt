@@ -5,11 +5,11 @@ use native.Mathlib.Omega.{arith}
 use Rattle.listing.proofs.put_listing.Goals as goal
 
 pub returns-then-end-lines : goal.returns-then-end-lines
-returns-then-end-lines c = not-shown _ _ _ c.if-end-lines.true
+returns-then-end-lines c = record { value = (not-shown _ _ _ c.if-end-lines.true).0; out_after = (not-shown _ _ _ c.if-end-lines.true).1 }
 
 pub put_lines-start-requires : goal.put_lines-start-requires
 put_lines-start-requires c = let w = c.put_standing-last.ensures in
     (c.requires.0, omega (arith, w.place, length-standing c.args.count), omega (arith, w.place, w.room, wrote-length w), c.requires.1)
 
 pub returns : goal.returns
-returns c = shown _ (wrote_then c.put_standing-last.ensures c.put_lines-start.ensures) c.if-end-lines.false
+returns c = record { value = (shown _ (wrote_then c.put_standing-last.ensures c.put_lines-start.ensures) c.if-end-lines.false).0; out_after = (shown _ (wrote_then c.put_standing-last.ensures c.put_lines-start.ensures) c.if-end-lines.false).1 }

@@ -25,8 +25,11 @@ pub resize-requires : goal.resize-requires
 resize-requires c = let a = c.args in
     let f = fits-then _ _ _ _ _ _ _ (sym c.edit_fits.ensures ∙ c.if-edit_fits.true) in
     let p = pad-bounds a.n in
-    rw c.padded_len.ensures
-    ((omega arith, f.1, f.2), (omega arith, resize-room _ a.s a.n a.before a.old a.post a.w f))
+    record {
+      z_bound = rw c.padded_len.ensures (omega arith, f.1, f.2);
+      post_in_bounds = rw c.padded_len.ensures (omega arith);
+      post_in_bounds_2 = rw c.padded_len.ensures (resize-room _ a.s a.n a.before a.old a.post a.w f);
+    }
 
 pub put_le-requires : goal.put_le-requires
 put_le-requires c = let a = c.args in
@@ -36,8 +39,7 @@ put_le-requires c = let a = c.args in
 
 pub returns-then-edit_fits : goal.returns-then-edit_fits
 unfolding table_edited
-returns-then-edit_fits c = let e = sym c.edit_fits.ensures ∙ c.if-edit_fits.true in
-    (sym e, rw (e, length-little_bytes) (cc))
+returns-then-edit_fits c = let e = sym c.edit_fits.ensures ∙ c.if-edit_fits.true in record { value = sym e; a_after = rw (e, length-little_bytes) (cc) }
 
 pub returns : goal.returns
-returns c = let e = sym c.edit_fits.ensures ∙ c.if-edit_fits.false in (sym e, rw e)
+returns c = let e = sym c.edit_fits.ensures ∙ c.if-edit_fits.false in record { value = sym e; a_after = rw e }
