@@ -14,11 +14,11 @@ pub slice_bounds-is_noverfl-end : goal.slice_bounds-is_noverfl-end
 slice_bounds-is_noverfl-end c = omega (arith, c.position_of.ensures ∙ noverfl-is, c.if-header-lt3200.false)
 
 pub returns-then-not-is_noverfl : goal.returns-then-not-is_noverfl
-returns-then-not-is_noverfl c = written-other _ _ _ _ c.if-header-lt3200.false (line-judged I.Noverfl _ _ _ _ _ (ap (λ (n : ℕ). n * 80 + 8) c.position_of.ensures) refl c.is_noverfl.ensures) (not-true _ c.if-not-is_noverfl.true)
+returns-then-not-is_noverfl c = written-other _ _ _ _ c.if-header-lt3200.false (line-judged I.Noverfl _ _ _ _ _ (ap (λ (n : ℕ). n * 80 + 8) c.position_of.ensures) refl c.is_noverfl.ensures) (c.if-not-is_noverfl.true)
 
 pub slice_bounds-is_npixelb-end : goal.slice_bounds-is_npixelb-end
 slice_bounds-is_npixelb-end c = omega (arith, c.position_of-2.ensures ∙ npixelb-is, c.if-header-lt3200.false)
 
 pub returns : goal.returns
-returns c = written-first _ _ _ _ _ c.if-header-lt3200.false (line-judged I.Noverfl _ _ _ _ _ (ap (λ (n : ℕ). n * 80 + 8) c.position_of.ensures) refl c.is_noverfl.ensures) (not-false _ c.if-not-is_noverfl.false)
+returns c = written-first _ _ _ _ _ c.if-header-lt3200.false (line-judged I.Noverfl _ _ _ _ _ (ap (λ (n : ℕ). n * 80 + 8) c.position_of.ensures) refl c.is_noverfl.ensures) (c.if-not-is_noverfl.false)
     (line-judged I.Npixelb _ _ _ _ _ (ap (λ (n : ℕ). n * 80 + 8) c.position_of-2.ensures) refl c.is_npixelb.ensures)
