@@ -3,7 +3,7 @@ use Rattle.header_text.proofs.+put_digits.Goals as goal
 
 pub returns-then-k-eq0 : goal.returns-then-k-eq0
 returns-then-k-eq0 t c =
-    let b = digits-none c.args.k c.args.n c.args.out.now c.if-k-eq0.true in
+    let b = digits-none c.args.n c.args.k c.args.out.now c.if-k-eq0.true in
     record { value = b.0; out_after = b.1 }
 
 pub returns-then-n-lt10 : goal.returns-then-n-lt10

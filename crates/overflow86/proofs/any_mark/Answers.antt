@@ -11,8 +11,8 @@ pub loop-i-preserved : goal.loop-i-preserved
 loop-i-preserved c = let f = c.loop-i.invariant in
     let h = c.loop-i-test.true in
     elim c.if-pixels-i.branch [
-      | then-pixels-i w ↦ rw w.VAR-is (seeking-hit f h w.if-pixels-i.true)
-      | else-pixels-i w ↦ rw w.VAR-is (seeking-miss f h w.if-pixels-i.false)
+      | then-pixels-i w ↦ rw w.found-is (seeking-hit f h w.if-pixels-i.true)
+      | else-pixels-i w ↦ rw w.found-is (seeking-miss f h w.if-pixels-i.false)
     ]
 
 pub returns : goal.returns

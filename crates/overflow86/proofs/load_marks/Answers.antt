@@ -36,7 +36,7 @@ overflow_add-marks c = let s = c in
     let e = c.block_end-e in
     let b =
     blocks_more (width_bytes s.args.w) s.args.mark s.args.image.now s.args.pixels.now l.pixels l.marks l.p e.result l.invariant s.requires e.ensures.0 (rw l.invariant.same at e.ensures.1) _ _
-    (rw c.width_bytes-each.ensures at (c.load_block-marks.ensures.value, c.load_block-marks.ensures.pixels_after)) in
+    (rw c.width_bytes-each.ensures at c.load_block-marks.ensures.value, rw c.width_bytes-each.ensures at c.load_block-marks.ensures.pixels_after) in
     omega (arith, b.low)
 
 pub loop-p-preserved : goal.loop-p-preserved
@@ -44,7 +44,7 @@ loop-p-preserved c = let s = c in
     let l = c.loop-p in
     let e = c.block_end-e in
     blocks_more (width_bytes s.args.w) s.args.mark s.args.image.now s.args.pixels.now l.pixels l.marks l.p e.result l.invariant s.requires e.ensures.0 (rw l.invariant.same at e.ensures.1) _ _
-    (rw c.width_bytes-each.ensures at (c.load_block-marks.ensures.value, c.load_block-marks.ensures.pixels_after))
+    (rw c.width_bytes-each.ensures at c.load_block-marks.ensures.value, rw c.width_bytes-each.ensures at c.load_block-marks.ensures.pixels_after)
 
 pub shape_of-pixels : goal.shape_of-pixels
 shape_of-pixels c = c.loop-p.invariant.same
