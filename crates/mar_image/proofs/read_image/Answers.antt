@@ -2,8 +2,9 @@ use mathlib.Core.Path.{◌≡◌, sym}
 use Prim.Native.Nat.{◌+◌, ◌*◌, ◌≤◌}
 use native.Mathlib.Omega.{arith}
 use lib.Seq.{length-take-le}
+use Rattle.mar_header.specs.Plate.{plate_pixel_count}
 use Rattle.mar_header.proofs.Laws.{side-le}
-use Rattle.mar_image.specs.MarImage.{plate_end}
+use Rattle.mar_image.specs.MarImage.{image_start, image_end, plate_end}
 use Rattle.mar_image.proofs.Frame.{count-le, records-le, short, truncated, parts-room, framed}
 use Rattle.mar_image.proofs.read_image.Goals as goal
 
@@ -31,10 +32,18 @@ pub slice_bounds-fill-end-4 : goal.slice_bounds-fill-end-4
 slice_bounds-fill-end-4 c = sym (length-take-le _ _ c.if-pixels-n.false)
 
 pub fill-checked-requires : goal.fill-checked-requires
-fill-checked-requires c = let s = c in
+fill-checked-requires c = let count-is : c.side_pixels-row.result * c.side_pixels-row.result ≡ plate_pixel_count c.args.header.side = rw c.side_pixels-row.ensures in
+    let start_is : c.side_pixels-row.result * 2 ≡ image_start c.args.header.side = rw c.side_pixels-row.ensures in
+    let table_is : c.side_pixels-row.result * 2 + c.side_pixels-row.result * c.side_pixels-row.result * 2 ≡ image_end c.args.header.side = rw c.side_pixels-row.ensures in
+    let end_is : c.side_pixels-row.result * 2 + c.side_pixels-row.result * c.side_pixels-row.result * 2 + c.records_for.result * (c.side_pixels-row.result * 2) ≡ plate_end c.args.header = rw (c.side_pixels-row.ensures, c.records_for.ensures) in
+    let s = c in
     let r = c in
-    parts-room s.args.file.now s.args.pixels.now s.args.header _ _ _ _ (count-is r) c.if-pixels-n.false (start_is r) (table_is r) (end_is r) c.if-file-end.false
+    parts-room s.args.file.now s.args.pixels.now s.args.header _ _ _ _ (count-is) c.if-pixels-n.false (start_is) (table_is) (end_is) c.if-file-end.false
 
 pub returns : goal.returns
-returns c = let s = c in
-    let r = c in record { value = (framed s.args.file.now s.args.pixels.now s.args.header _ _ _ _ (count-is r) c.if-pixels-n.false (start_is r) (table_is r) (end_is r) c.if-file-end.false _ _ _ (c.fill-checked.ensures.value, c.fill-checked.ensures.pixels_after) c.answer_by.ensures).0; pixels_after = (framed s.args.file.now s.args.pixels.now s.args.header _ _ _ _ (count-is r) c.if-pixels-n.false (start_is r) (table_is r) (end_is r) c.if-file-end.false _ _ _ (c.fill-checked.ensures.value, c.fill-checked.ensures.pixels_after) c.answer_by.ensures).1 }
+returns c = let count-is : c.side_pixels-row.result * c.side_pixels-row.result ≡ plate_pixel_count c.args.header.side = rw c.side_pixels-row.ensures in
+    let start_is : c.side_pixels-row.result * 2 ≡ image_start c.args.header.side = rw c.side_pixels-row.ensures in
+    let table_is : c.side_pixels-row.result * 2 + c.side_pixels-row.result * c.side_pixels-row.result * 2 ≡ image_end c.args.header.side = rw c.side_pixels-row.ensures in
+    let end_is : c.side_pixels-row.result * 2 + c.side_pixels-row.result * c.side_pixels-row.result * 2 + c.records_for.result * (c.side_pixels-row.result * 2) ≡ plate_end c.args.header = rw (c.side_pixels-row.ensures, c.records_for.ensures) in
+    let s = c in
+    let r = c in record { value = (framed s.args.file.now s.args.pixels.now s.args.header _ _ _ _ (count-is) c.if-pixels-n.false (start_is) (table_is) (end_is) c.if-file-end.false _ _ _ (c.fill-checked.ensures.value, c.fill-checked.ensures.pixels_after) c.answer_by.ensures).0; pixels_after = (framed s.args.file.now s.args.pixels.now s.args.header _ _ _ _ (count-is) c.if-pixels-n.false (start_is) (table_is) (end_is) c.if-file-end.false _ _ _ (c.fill-checked.ensures.value, c.fill-checked.ensures.pixels_after) c.answer_by.ensures).1 }
