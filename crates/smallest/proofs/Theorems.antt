@@ -71,7 +71,7 @@ ordered-all q h (next r f l o) = one {f = f} (omega arith) (ordered-all q (omega
 
 ordered-behind : {r : ℕ} (xs : List Form) (f : Form) (ys : List Form) → Ordered r (xs ++ (f ∷ ys)) → Every (λ g. rank f ≤ rank g) ys
 ordered-behind [] f ys (next r g l o) = ordered-all (rank f) (omega arith) o
-ordered-behind (x ∷ xs) f ys (next r g l o) = ordered-behind xs f ys o
+ordered-behind (x ∷ xs) f ys (next r g l o) = ordered-behind {r = rank g} xs f ys o
 
 -- an equal one comes later
 abbrev pub Preferred : (Form → Made) → Form → ℕ → Form → Type 0

@@ -1,0 +1,7 @@
+use mathlib.Core.Path.{◌∙◌}
+use native.Mathlib.Omega.{arith}
+use Rattle.canonical.proofs.Decides.{decides}
+use Rattle.canonical.proofs.locate.Goals as goal
+
+pub returns : goal.returns
+returns c = c.check.ensures ∙ decides _ _ (λ i. omega (arith, c.shared_slice_known-1.given i))
