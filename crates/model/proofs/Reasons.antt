@@ -40,7 +40,7 @@ use Rattle.model.specs.Ledger.{Ledger, ledger_bytes}
 use Rattle.model.specs.Run.{State, step, opening_of, AllCounted, OpenedIn}
 use Rattle.model.specs.Theorems.{lines_at, withdrawals, AllAccepted, DayEarlier, PixelEarlier, day_unnumbered, pixel_unnumbered, ReasonsUnobservable, count_said, CountsExplained}
 use Rattle.model.proofs.Held.{Given, held-pixels}
-use Rattle.model.proofs.Accepted.{taken, withdrawal-sized, withdrawal-writable, read_as, line-more, last-top}
+use Rattle.model.proofs.Accepted.{taken, withdrawal-sized, withdrawal-writable, read-as, line-more, last-top}
 use Rattle.model.proofs.Agree.{line_stack, length-with, good-pixels, Same, state_at}
 use Rattle.model.proofs.Compacted.{same-found, compacted-equivalent}
 use Rattle.model.proofs.Exactly.{later, by-opening}
@@ -70,7 +70,7 @@ drawn-one s e =
       withdraw = (refl, tt);
       lines = rw (answer, ledger) (line-more t n w.room withdrawal-writable);
       well = λ well. rw (answer, ledger) (ledger-appended t n withdrawal_line w.room
-          ∙ rw (well, right, read_as withdrawal-writable, ne_eqb (length (stack [] (lines_of n t))) 0 (λ z. omega (arith, ap length top.is))));
+          ∙ rw (well, right, read-as withdrawal-writable, ne_eqb (length (stack [] (lines_of n t))) 0 (λ z. omega (arith, ap length top.is))));
     }
 
 drawn : (count : ℕ) (s : State) → AllAccepted (run step (withdrawals count) s).replies → Drawn s (run step (withdrawals count) s).state
