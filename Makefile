@@ -20,11 +20,10 @@ AFTER_PROOFS += model
 AFTER_PROOFS += python-test
 AFTER_PROOFS += examples-test
 
-# The whole gate: every crate proved from nothing, every must-fail edit refused, every program's output compared; then the rest
-# on what was proved. The last line is the prover's verdict.
+# The whole gate: `rt ci` proves every crate, tries every must-fail edit and compares every program's output, whatever an earlier run
+# of the same files on this machine has not; then the rest on what was proved. The last line is the prover's verdict.
 test: toolchain
 	@tools/deps python3
-	rt fmt --check
 	@tools/gate $(AFTER_PROOFS)
 
 .PHONY: gate-test
@@ -39,37 +38,38 @@ toolchain:
 	if [ "$$pinned" = "$$found" ]; then echo "toolchain: $$found"; \
 	else echo "WARNING: the toolchain is '$$found', and this repository is pinned to '$$pinned' (toolchain.txt)" >&2; fi
 
-# make check NAME=header: prove some crates and what they stand on, without the must-fail edits.
+# make check NAME=header: prove a crate and what it stands on, without the must-fail edits; with no NAME every crate.
 check:
-	rt check $(NAME)
+	$(if $(NAME),cd crates/$(NAME) && rt check,rt all check)
 
 # make must-fail NAME=header: the edits that the prover must refuse.
 must-fail:
 	rt must-fail $(NAME)
 
+# make fmt NAME=header: lays the crate's files out, as rt ci wants them; with no NAME those of every crate.
 fmt:
-	rt fmt
+	@for crate in $(if $(NAME),crates/$(NAME),crates/*/); do (cd "$$crate" && rt fmt) || exit 1; done
 
 # make dev NAME=header: the edit loop, its output shortened to errors, goals and the verdict.
 dev:
 	tools/dev $(NAME) --allow-holes
 
-# make skeletons NAME=header: proof files, with holes, for the functions that have none.
+# make skeletons NAME=header FN=read_lead: a function's proof files, with a hole at each goal.
 skeletons:
-	tools/proof_skeletons.py $(NAME)
+	cd crates/$(NAME) && rt check --start $(NAME)::$(FN) --allow-holes
 
-# make paths NAME=header FN=read_lead: the facts at hand at each need of a function.
+# make paths NAME=header FN=read_lead: the facts at hand at each goal of a function.
 paths:
 	tools/paths $(NAME) $(FN)
 
-# The static library that C and Rust programs link. rt proves the crate of the C interface again for it, so it is made only where it is stale.
+# The static library that C and Rust programs link. rt checks the crate of the exports again for it, so it is made only where it is stale.
 LIBRARY := target/staticlib/libquayrudder.a
 staticlib: $(LIBRARY)
 
-$(LIBRARY): crates.txt $(shell find crates -name '*.rt' -o -name '*.antt')
+$(LIBRARY): crates.txt $(shell find crates -path '*/out' -prune -o \( -name '*.rt' -o -name '*.antt' \) -print)
 	@tools/deps python3
 	@mkdir -p target
-	@tools/prover target/staticlib.log quayrudder tools/staticlib
+	@tools/prover target/staticlib.log quayrudder_c tools/staticlib
 
 # Against plain C, FabIO and memcpy; the tables are printed.
 bench: deps-bench
@@ -218,9 +218,10 @@ examples-test: cli sharedlib $(EXAMPLE)
 	@PATH="$(abspath $(dir $(CLI))):$$PATH" PYTHONPATH=$(abspath python) PYTHON="$(PYTHON)" examples/run.sh target/examples $(EXAMPLE) \
 	    -Iinclude -L$(dir $(SHARED)) -lquayrudder -Wl,-rpath,$(abspath $(dir $(SHARED)))
 
-# The Python module (python): the examples of its docstrings, and its tests.
+# The Python module (python): the examples of its docstrings, and its tests. Its table of refusals is a copy of the page's.
 python-test: cli sharedlib
 	@tools/deps python3-numpy util-linux
+	@cmp docs/REFUSALS.md python/quayrudder/refusals.md
 	@PYTHONPATH=python $(PYTHON) python/tests/run.py
 
 # The same of the FabIO plug-in, and the types by mypy. Part of make peers: it needs large packages.

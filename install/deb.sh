@@ -1,13 +1,18 @@
 #!/bin/sh
-# install/deb.sh FOLDER VERSION: FOLDER/quayrudder_VERSION_ARCHITECTURE.deb, of what `make install` puts below FOLDER/root.
+# install/deb.sh FOLDER VERSION: FOLDER/quayrudder_VERSION_ARCHITECTURE.deb, of what `make install` puts below a folder outside the checkout,
+# since rt ci takes no link in it.
 set -eu
 given=$1
 version=$2
 architecture=$(dpkg --print-architecture)
 umask 022
 rm -rf "$given"
-mkdir -p "$given/debian" "$given/root/DEBIAN"
-folder=$(realpath "$given")
+mkdir -p "$given"
+to=$(realpath "$given")
+folder=$(mktemp -d)
+trap 'rm -rf "$folder"' EXIT
+chmod 755 "$folder"
+mkdir -p "$folder/debian" "$folder/root/DEBIAN"
 make --no-print-directory install DESTDIR="$folder/root" PREFIX=/usr LIBDIR="/usr/lib/$(dpkg-architecture -qDEB_HOST_MULTIARCH)"
 
 # The packages that the command and the shared library are linked with.
@@ -36,5 +41,5 @@ END
 echo 'activate-noawait ldconfig' > DEBIAN/triggers
 echo "libquayrudder 0 quayrudder (>= $version)" > DEBIAN/shlibs
 find usr -type f -exec md5sum {} + | sort -k 2 > DEBIAN/md5sums
-dpkg-deb --root-owner-group --build . "$folder" > /dev/null
+dpkg-deb --root-owner-group --build . "$to" > /dev/null
 echo "$given/quayrudder_${version}_$architecture.deb"

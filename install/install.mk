@@ -17,14 +17,14 @@ SHARED := target/sharedlib/libquayrudder.so
 deps-install:
 	@tools/deps binutils gcc gzip help2man
 
-# The shared library, of the very objects in the static one.
+# The shared library, of the very objects in the static one. Its two names are one file: rt ci takes no link below the checkout.
 sharedlib: $(SHARED)
 
 $(SHARED): $(LIBRARY) install/exports.map install/install.mk
 	@mkdir -p $(@D)
 	gcc -shared -Wl,-soname,$(SONAME) -Wl,--version-script,install/exports.map -Wl,-z,defs -Wl,-z,relro,-z,now -s \
 	    -o $(@D)/$(SONAME) -Wl,--whole-archive $(LIBRARY) -Wl,--no-whole-archive
-	@ln -sf $(SONAME) $@
+	@ln -f $(@D)/$(SONAME) $@
 
 # Nothing is written outside DESTDIR; paths within the files are those without it.
 install: cli sharedlib deps-install

@@ -2,47 +2,63 @@
 # faults.sh: copies of the library, each with one deliberate fault (faults/*.edit), given to the comparison, which has to find it
 # within a minute. First a copy without one, in which it has to find nothing.
 #
-# A copy with a fault cannot be proved, and rt builds nothing else. rt's trial of a program with no proof (rt try) does compile, so the
-# copy is compiled as a program whose main does nothing, the module that reaches the kit's compiler is kept, and faults/exports.c
+# A copy with a fault cannot be proved, and rt builds nothing else. rt's trial of a program with no proof (rt try) does compile, so
+# quayrudder_c is compiled as a program whose main calls each export once, the module that reaches the kit's compiler is kept, and faults/exports.c
 # gives its functions their C names. What is made here is for this trial alone.
 set -eu
 cd "$(dirname "$0")/../.."
 here=tests/second_reader
-home=${RATTLE_HOME:-$(dirname "$(readlink -f "$(command -v rt)")")/..}
-kit=$(cd "$home/on/$(uname -m)" && pwd)
+kit=$(dirname "$(dirname "$(readlink -f "$(command -v rt)")")")
 out=$PWD/target/faults
 rm -rf "$out"
-mkdir -p "$out/toolchain/bin" "$out/lib"
+mkdir -p "$out/lib"
+# Outside the checkout: rt ci refuses links, and sources that it does not check.
+work=$(mktemp -d)
+trap 'rm -rf "$work"' EXIT
 
-# The kit's toolchain, with a compiler that keeps the module compiled at -O3.
-ln -s "$kit/toolchain/lib" "$out/toolchain/lib"
-for tool in ld.lld llvm-ar; do
-    ln -L "$kit/toolchain/bin/$tool" "$out/toolchain/bin/" 2> /dev/null || cp -L "$kit/toolchain/bin/$tool" "$out/toolchain/bin/"
+# The kit, with a compiler that keeps the module.
+mkdir -p "$work/kit/bin" "$work/kit/toolchain/bin"
+for part in "$kit"/* "$kit"/bin/* "$kit"/toolchain/* "$kit"/toolchain/bin/*; do
+    to=$work/kit${part#"$kit"}
+    case ${part#"$kit"} in
+    /bin | /toolchain | /toolchain/bin | /toolchain/bin/clang) ;;
+    /bin/rt | /bin/rtlib.py) cp "$part" "$to" ;;
+    *) ln -s "$part" "$to" ;;
+    esac
 done
-cat > "$out/toolchain/bin/clang" << SCRIPT
+cat > "$work/kit/toolchain/bin/clang" << SCRIPT
 #!/bin/sh
-case " \$* " in *" -O3 "*) cp module.bc "$out/module.bc" ;; esac
+case " \$* " in *" -fsanitize=address "*) cp module.bc "$work/module.bc" ;; esac
 exec "$kit/toolchain/bin/clang" "\$@"
 SCRIPT
-chmod +x "$out/toolchain/bin/clang"
+chmod +x "$work/kit/toolchain/bin/clang"
 
 # compile CRATES: out/lib/libquayrudder.a from these sources, with no proof.
 compile() {
-    crates=$1
-    rm -rf "$out/program"
-    cp -r "$crates/quayrudder" "$out/program"
-    mv "$out/program/src/lib.rt" "$out/program/src/main.rt"
-    echo 'fn main() {}' >> "$out/program/src/main.rt"
-    set -- "$out/program/src/main.rt" --crate-name quayrudder --lib "std=$home/libs/std/src/lib.rt"
-    for file in "$crates"/*/src/lib.rt; do
-        name=$(basename "${file%/src/lib.rt}")
-        [ "$name" = quayrudder ] || set -- "$@" --lib "$name=$file"
+    rm -rf "$work/try" "$work/module.bc"
+    for folder in "$1"/*/src; do
+        to=$work/try/crates/$(basename "$(dirname "$folder")")
+        mkdir -p "$to"
+        cp -r "$folder" "$to/src"
     done
-    "$kit/bin/rattle-cases" --toolchain "$out/toolchain" "$@" > "$out/compile.log" 2>&1 || { cat "$out/compile.log"; exit 1; }
+    sed 's/^quayrudder_c staticlib:/quayrudder_c:/' crates.txt > "$work/try/crates.txt"
+    python3 - "$work/try/crates/quayrudder_c/src" << 'SCRIPT'
+import pathlib, re, sys
+folder = pathlib.Path(sys.argv[1])
+text = (folder / "lib.rt").read_text("utf-8")
+empty = {"&[u8]": "&[]", "&[u32]": "&[]", "&mut [u8]": "&mut [0u8; 0]", "&mut [u32]": "&mut [0u32; 0]"}
+calls = []
+for name, given in re.findall(r'pub extern "C" fn (\w+)\(([^)]*)\)', text):
+    types = [it.split(":")[1].strip() for it in given.split(",") if it.strip()]
+    calls.append(f"    let _{name} = {name}({', '.join(empty.get(it, '0') for it in types)});\n")
+(folder / "main.rt").write_text(f"{text}\nfn main() {{\n{''.join(calls)}}}\n", "utf-8")
+(folder / "lib.rt").unlink()
+SCRIPT
+    (cd "$work/try/crates/quayrudder_c" && "$work/kit/bin/rt" try > "$out/compile.log" 2>&1 < /dev/null) || { cat "$out/compile.log"; exit 1; }
     clang="$kit/toolchain/bin/clang --target=x86_64-unknown-linux-gnu --no-default-config"
-    $clang -S -emit-llvm -x ir "$out/module.bc" -o "$out/module.ll"
-    sed -E -i 's/@"quayrudder::(qr_[a-z_]+)"/@rattle_\1/g; s/^define internal (.*@rattle_qr_)/define \1/; s/@main\(/@rattle_main(/' "$out/module.ll"
-    $clang -c -O3 -fPIC -x ir "$out/module.ll" -o "$out/module.o"
+    $clang -S -emit-llvm -x ir "$work/module.bc" -o "$work/module.ll"
+    sed -E -i 's/@"quayrudder_c::(qr_[a-z_]+)"/@rattle_\1/g; s/^define internal (.*@rattle_qr_)/define \1/; s/@main\(/@rattle_main(/' "$work/module.ll"
+    $clang -c -O3 -fPIC -x ir "$work/module.ll" -o "$out/module.o"
     gcc -O2 -fPIC -c "$here/faults/exports.c" -o "$out/exports.o"
     rm -f "$out/lib/libquayrudder.a"
     ar rcs "$out/lib/libquayrudder.a" "$out/module.o" "$out/exports.o"
@@ -50,9 +66,12 @@ compile() {
 
 # edit FILE: applies it to a copy of the crates; its old text has to stand there once.
 edit() {
-    rm -rf "$out/crates"
-    cp -r crates "$out/crates"
-    python3 - "$1" "$out/crates" << 'SCRIPT'
+    rm -rf "$work/crates"
+    for folder in crates/*/src; do
+        mkdir -p "$work/$(dirname "$folder")"
+        cp -r "$folder" "$work/$folder"
+    done
+    python3 - "$1" "$work/crates" << 'SCRIPT'
 import pathlib, sys
 lines = dict(line.split(": ", 1) for line in pathlib.Path(sys.argv[1]).read_text().splitlines() if not line.startswith("#"))
 path = pathlib.Path(sys.argv[2]) / lines["file"]
@@ -78,7 +97,7 @@ seed=11
 for fault in off_by_one tail order pair run twice exchange amend compact why entry smallest; do
     printf '\n%s: ' "$fault" && head -n 1 "$here/faults/$fault.edit" | cut -c3-
     edit "$here/faults/$fault.edit"
-    compile "$out/crates"
+    compile "$work/crates"
     status=0
     compare "$seed" 60 "$out/$fault.case" || status=$?
     cat "$out/compare.log"

@@ -1,4 +1,4 @@
-// The C interface: the library's functions under fixed names, with answers as plain numbers.
+// The library's functions under fixed names, with answers as plain numbers; `quayrudder_c` exports them to C.
 #![tactic(auto)]
 
 ghost use Rattle.std.specs.Prelude.{◌≡◌, length};
@@ -36,16 +36,14 @@ use ledger_report::{LedgerResult, ListResult, WhyResult};
 use mar_report::MarEntryResult;
 
 // What the header of a frame says.
-#[unsafe(no_mangle)]
-pub extern "C" fn qr_header(frame: &[u8]) -> HeaderReport
+pub fn qr_header(frame: &[u8]) -> HeaderReport
     ensures { result ≡ header_report (header_of frame.now) }
 {
     header_report::report(frame)
 }
 
 // Reads a frame of FORMAT 100 or 86.
-#[unsafe(no_mangle)]
-pub extern "C" fn qr_read(frame: &[u8], pixels: &mut [u32]) -> ReadResult
+pub fn qr_read(frame: &[u8], pixels: &mut [u32]) -> ReadResult
     ensures value { result ≡ read_result (read_answer frame.now (length pixels.old)) }
     ensures pixels_after { pixels.new ≡ read_pixels frame.now pixels.old }
 {
@@ -53,8 +51,7 @@ pub extern "C" fn qr_read(frame: &[u8], pixels: &mut [u32]) -> ReadResult
 }
 
 // Reads an uncompressed mar image plate.
-#[unsafe(no_mangle)]
-pub extern "C" fn qr_mar_read(file: &[u8], pixels: &mut [u32]) -> ReadResult
+pub fn qr_mar_read(file: &[u8], pixels: &mut [u32]) -> ReadResult
     ensures value { result ≡ mar_read_result (mar_answer file.now (length pixels.old)) }
     ensures pixels_after { pixels.new ≡ mar_pixels file.now pixels.old }
 {
@@ -62,16 +59,14 @@ pub extern "C" fn qr_mar_read(file: &[u8], pixels: &mut [u32]) -> ReadResult
 }
 
 // One of the 25 entries of a mar header record, its bits as stored.
-#[unsafe(no_mangle)]
-pub extern "C" fn qr_mar_entry(file: &[u8], entry: u32) -> MarEntryResult
+pub fn qr_mar_entry(file: &[u8], entry: u32) -> MarEntryResult
     ensures { result ≡ mar_entry_result (entry_of file.now entry) }
 {
     mar_report::mar_entry_result(mar_entry::read_entry(file, entry))
 }
 
 // Reads a d*TREK image.
-#[unsafe(no_mangle)]
-pub extern "C" fn qr_dtrek_read(file: &[u8], pixels: &mut [u32]) -> ReadResult
+pub fn qr_dtrek_read(file: &[u8], pixels: &mut [u32]) -> ReadResult
     ensures value { result ≡ dtrek_read_result (dtrek_answer file.now (length pixels.old)) }
     ensures pixels_after { pixels.new ≡ dtrek_pixels file.now pixels.old }
 {
@@ -79,24 +74,21 @@ pub extern "C" fn qr_dtrek_read(file: &[u8], pixels: &mut [u32]) -> ReadResult
 }
 
 // What the header of a d*TREK image says.
-#[unsafe(no_mangle)]
-pub extern "C" fn qr_dtrek_header(file: &[u8]) -> DtrekHeaderReport
+pub fn qr_dtrek_header(file: &[u8]) -> DtrekHeaderReport
     ensures { result ≡ dtrek_report (dtrek_header file.now) }
 {
     dtrek_report::report(file)
 }
 
 // The item of a d*TREK header from a place on.
-#[unsafe(no_mangle)]
-pub extern "C" fn qr_dtrek_item(file: &[u8], at: u64) -> DtrekItemReport
+pub fn qr_dtrek_item(file: &[u8], at: u64) -> DtrekItemReport
     ensures { result ≡ dtrek_item file.now at }
 {
     dtrek_report::item(file, at)
 }
 
 // Writes a frame of FORMAT 100.
-#[unsafe(no_mangle)]
-pub extern "C" fn qr_write(
+pub fn qr_write(
     header: &[u8],
     pixels: &[u32],
     width: u32,
@@ -115,8 +107,7 @@ pub extern "C" fn qr_write(
 }
 
 // Reads a frame, and holds it in the form asked for.
-#[unsafe(no_mangle)]
-pub extern "C" fn qr_open(
+pub fn qr_open(
     frame: &[u8],
     pixels: &mut [u32],
     width: u32,
@@ -136,20 +127,14 @@ pub extern "C" fn qr_open(
 }
 
 // The form in which a frame of this header and these pixels has the fewest bytes.
-#[unsafe(no_mangle)]
-pub extern "C" fn qr_smallest(header: &[u8], pixels: &[u32]) -> FormResult
+pub fn qr_smallest(header: &[u8], pixels: &[u32]) -> FormResult
     ensures { result ≡ form_result (smallest_form header.now pixels.now) }
 {
     form_report::form_result(smallest::choose(header, pixels))
 }
 
 // Reads a frame, and holds it in the smallest form.
-#[unsafe(no_mangle)]
-pub extern "C" fn qr_open_smallest(
-    frame: &[u8],
-    pixels: &mut [u32],
-    held: &mut [u8],
-) -> OpenFormResult
+pub fn qr_open_smallest(frame: &[u8], pixels: &mut [u32], held: &mut [u8]) -> OpenFormResult
     ensures value { result ≡ open_form_result (smallest_opened frame.now pixels.old (length held.old)) }
     ensures pixels_after { pixels.new ≡ open_pixels frame.now pixels.old }
     ensures held_after { held.new ≡ open_held frame.now pixels.old (Listed (chosen_form frame.now pixels.old)) held.old }
@@ -158,8 +143,7 @@ pub extern "C" fn qr_open_smallest(
 }
 
 // Corrects the count of one pixel of a held frame.
-#[unsafe(no_mangle)]
-pub extern "C" fn qr_correct(
+pub fn qr_correct(
     held: &mut [u8],
     ledger: &mut [u8],
     lines: u64,
@@ -174,8 +158,7 @@ pub extern "C" fn qr_correct(
 }
 
 // Takes the last standing line back.
-#[unsafe(no_mangle)]
-pub extern "C" fn qr_withdraw(held: &mut [u8], ledger: &mut [u8], lines: u64) -> LedgerResult
+pub fn qr_withdraw(held: &mut [u8], ledger: &mut [u8], lines: u64) -> LedgerResult
     ensures value { result ≡ ledger_result lines (withdraw_outcome held.old ledger.old lines).answer }
     ensures held_after { held.new ≡ (withdraw_outcome held.old ledger.old lines).held }
     ensures ledger_after { ledger.new ≡ (withdraw_outcome held.old ledger.old lines).ledger }
@@ -184,13 +167,7 @@ pub extern "C" fn qr_withdraw(held: &mut [u8], ledger: &mut [u8], lines: u64) ->
 }
 
 // Takes the last standing line back, a correction, and corrects its pixel to another count.
-#[unsafe(no_mangle)]
-pub extern "C" fn qr_amend(
-    held: &mut [u8],
-    ledger: &mut [u8],
-    lines: u64,
-    count: u32,
-) -> LedgerResult
+pub fn qr_amend(held: &mut [u8], ledger: &mut [u8], lines: u64, count: u32) -> LedgerResult
     ensures value { result ≡ ledger_result lines (amend_outcome held.old ledger.old lines count).answer }
     ensures held_after { held.new ≡ (amend_outcome held.old ledger.old lines count).held }
     ensures ledger_after { ledger.new ≡ (amend_outcome held.old ledger.old lines count).ledger }
@@ -199,14 +176,7 @@ pub extern "C" fn qr_amend(
 }
 
 // Appends a keep line.
-#[unsafe(no_mangle)]
-pub extern "C" fn qr_keep(
-    ledger: &mut [u8],
-    lines: u64,
-    year: u32,
-    month: u32,
-    day: u32,
-) -> LedgerResult
+pub fn qr_keep(ledger: &mut [u8], lines: u64, year: u32, month: u32, day: u32) -> LedgerResult
     ensures value { result ≡ ledger_result lines (keep_answer ledger.old lines (date year month day)) }
     ensures ledger_after { ledger.new ≡ keep_bytes ledger.old lines (date year month day) }
 {
@@ -217,8 +187,7 @@ pub extern "C" fn qr_keep(
 }
 
 // Leaves the standing lines of a ledger alone.
-#[unsafe(no_mangle)]
-pub extern "C" fn qr_compact(ledger: &mut [u8], lines: u64) -> LedgerResult
+pub fn qr_compact(ledger: &mut [u8], lines: u64) -> LedgerResult
     ensures value { result ≡ ledger_result lines (compact_answer ledger.old lines) }
     ensures ledger_after { ledger.new ≡ compact_bytes ledger.old lines }
 {
@@ -226,38 +195,28 @@ pub extern "C" fn qr_compact(ledger: &mut [u8], lines: u64) -> LedgerResult
 }
 
 // May the frame be purged on this day: 0, or the refusal.
-#[unsafe(no_mangle)]
-pub extern "C" fn qr_may_purge(ledger: &[u8], lines: u64, year: u32, month: u32, day: u32) -> u32
+pub fn qr_may_purge(ledger: &[u8], lines: u64, year: u32, month: u32, day: u32) -> u32
     ensures { result ≡ purge_result (purge_answer ledger.now lines (date year month day)) }
 {
     ledger_report::purge_result(ledger::may_purge(ledger, lines, Date { year, month, day }))
 }
 
 // The purge question with the line that decides it.
-#[unsafe(no_mangle)]
-pub extern "C" fn qr_why_day(
-    ledger: &[u8],
-    lines: u64,
-    year: u32,
-    month: u32,
-    day: u32,
-) -> WhyResult
+pub fn qr_why_day(ledger: &[u8], lines: u64, year: u32, month: u32, day: u32) -> WhyResult
     ensures { result ≡ day_result (day_reason ledger.now lines (date year month day)) }
 {
     ledger_report::day_result(why::day_reason(ledger, lines, Date { year, month, day }))
 }
 
 // The line that set a pixel, if one did.
-#[unsafe(no_mangle)]
-pub extern "C" fn qr_why_pixel(ledger: &[u8], lines: u64, pixel: u64) -> WhyResult
+pub fn qr_why_pixel(ledger: &[u8], lines: u64, pixel: u64) -> WhyResult
     ensures { result ≡ pixel_result (pixel_reason ledger.now lines pixel) }
 {
     ledger_report::pixel_result(why::pixel_reason(ledger, lines, pixel))
 }
 
 // The listing of a ledger, at the end of the buffer.
-#[unsafe(no_mangle)]
-pub extern "C" fn qr_list(ledger: &[u8], out: &mut [u8]) -> ListResult
+pub fn qr_list(ledger: &[u8], out: &mut [u8]) -> ListResult
     ensures value { result ≡ list_result (list_answer ledger.now (length out.old)) }
     ensures out_after { out.new ≡ list_bytes ledger.now out.old }
 {
