@@ -9,11 +9,13 @@
 ghost use Rattle.std.specs.Prelude.{◌≤◌, length};
 
 use calendar::Date;
+use console::Output;
 use layout::{EntryAnswer, Form, Image, Underflow, Width, WidthAnswer};
 use ledger::{LedgerAnswer, PurgeAnswer};
-use libc::{STDIN_FILENO, STDOUT_FILENO};
 use numeral::Number;
 use opening::OpenAnswer;
+use std::io;
+use std::io::Write;
 use writer::{AskedForm, WriteAnswer};
 
 // A call: 0 correction, 1 keep entry, 2 withdrawal, 3 purge question. One beyond is of a pixel 4294967296 higher.
@@ -114,13 +116,13 @@ fn value(text: &[u8]) -> u32 {
     }
 }
 
-fn word(text: &[u8]) {
-    io::write_all(STDOUT_FILENO, text);
+fn word(stdout: &mut Output, text: &[u8]) -> io::Result<()> {
+    stdout.write_all(text)
 }
 
-fn number(text: &[u8], n: u64) {
-    io::write_all(STDOUT_FILENO, text);
-    io::print_decimal(STDOUT_FILENO, n);
+fn number(stdout: &mut Output, text: &[u8], n: u64) -> io::Result<()> {
+    stdout.write_all(text)?;
+    console::print_decimal(stdout, n)
 }
 
 fn store(buffer: &mut [u8], at: usize, byte: u8) {
@@ -818,39 +820,41 @@ fn try_damaged(
     }
 }
 
-fn show_count(k: usize, n: u32) {
+fn show_count(stdout: &mut Output, k: usize, n: u32) -> io::Result<()> {
     if 0 < n {
-        number(b" ", k as u64);
-        number(b":", n as u64);
+        number(stdout, b" ", k as u64)?;
+        number(stdout, b":", n as u64)?;
     }
+    Ok(())
 }
 
-fn show_accepted(n: u32) {
-    number(b" accepted ", n as u64);
-    word(b" refused");
+fn show_accepted(stdout: &mut Output, n: u32) -> io::Result<()> {
+    number(stdout, b" accepted ", n as u64)?;
+    word(stdout, b" refused")
 }
 
-fn show_counts(tally: &[u32]) {
+fn show_counts(stdout: &mut Output, tally: &[u32]) -> io::Result<()> {
     let mut k = 1;
     while k < 28 {
-        show_count(k, at_place(tally, k));
+        show_count(stdout, k, at_place(tally, k))?;
         k += 1;
     }
+    Ok(())
 }
 
-fn show_tally(tally: &[u32]) {
-    show_accepted(at_place(tally, 0));
-    show_counts(tally);
+fn show_tally(stdout: &mut Output, tally: &[u32]) -> io::Result<()> {
+    show_accepted(stdout, at_place(tally, 0))?;
+    show_counts(stdout, tally)
 }
 
-fn show(p: Played, tally: &[u32]) {
-    number(b" -> calls ", p.calls as u64);
-    show_tally(tally);
+fn show(stdout: &mut Output, p: Played, tally: &[u32]) -> io::Result<()> {
+    number(stdout, b" -> calls ", p.calls as u64)?;
+    show_tally(stdout, tally)?;
     if p.good {
-        word(b" agrees\n");
+        word(stdout, b" agrees\n")
     } else {
-        number(b" DIFFERS at call ", p.calls as u64);
-        word(b"\n");
+        number(stdout, b" DIFFERS at call ", p.calls as u64)?;
+        word(stdout, b"\n")
     }
 }
 
@@ -955,6 +959,7 @@ fn ledger_size(row: &[u8]) -> usize
 }
 
 fn play_row(
+    stdout: &mut Output,
     row: &[u8],
     frame: &[u8],
     opened: &[u32],
@@ -962,7 +967,7 @@ fn play_row(
     held: &mut [u8],
     model_held: &mut [u8],
     totals: &mut [u32],
-) {
+) -> io::Result<()> {
     let size = ledger_size(row);
     let mut ledger = [171u8; 3216];
     let mut model_ledger = [171u8; 3216];
@@ -978,8 +983,9 @@ fn play_row(
         &mut model_ledger[0..size],
         &mut notes,
     );
-    show(p, &notes);
+    show(stdout, p, &notes)?;
     add_all(totals, &notes);
+    Ok(())
 }
 
 // The bytes of a written frame, at most 8192; 0 where there is none.
@@ -1025,6 +1031,7 @@ fn opens(
 }
 
 fn open_row(
+    stdout: &mut Output,
     row: &[u8],
     frame: &[u8],
     pixels: &[u32],
@@ -1033,11 +1040,11 @@ fn open_row(
     held: &mut [u8],
     model_held: &mut [u8],
     totals: &mut [u32],
-) {
+) -> io::Result<()> {
     if opens(frame, pixels, asked, opened, held, model_held) {
-        play_row(row, frame, opened, asked, held, model_held, totals);
+        play_row(stdout, row, frame, opened, asked, held, model_held, totals)
     } else {
-        word(b" -> DIFFERS at the opening\n");
+        word(stdout, b" -> DIFFERS at the opening\n")
     }
 }
 
@@ -1048,13 +1055,21 @@ fn held_size(row: &[u8], frame: &[u8]) -> usize
     least(frame.len(), 8192) + least(value(cell(row, 5)) as usize, 1000)
 }
 
-fn hold_row(row: &[u8], frame: &[u8], pixels: &[u32], asked: AskedForm, totals: &mut [u32]) {
+fn hold_row(
+    stdout: &mut Output,
+    row: &[u8],
+    frame: &[u8],
+    pixels: &[u32],
+    asked: AskedForm,
+    totals: &mut [u32],
+) -> io::Result<()> {
     let n = least(pixels.len(), 24);
     let size = held_size(row, frame);
     let mut opened = [0u32; 24];
     let mut held = [170u8; 9216];
     let mut model_held = [170u8; 9216];
     open_row(
+        stdout,
         row,
         frame,
         pixels,
@@ -1063,7 +1078,7 @@ fn hold_row(row: &[u8], frame: &[u8], pixels: &[u32], asked: AskedForm, totals: 
         &mut held[0..size],
         &mut model_held[0..size],
         totals,
-    );
+    )
 }
 
 // The row's pixels, or made ones.
@@ -1088,51 +1103,60 @@ fn count_of(row: &[u8]) -> usize
 }
 
 // Makes the row's frame.
-fn write_row(row: &[u8], header: &[u8], pixels: &mut [u32], totals: &mut [u32]) {
+fn write_row(
+    stdout: &mut Output,
+    row: &[u8],
+    header: &[u8],
+    pixels: &mut [u32],
+    totals: &mut [u32],
+) -> io::Result<()> {
     fill_pixels(row, pixels);
     let asked = asked_form(value(cell(row, 0)), value(cell(row, 1)));
     let mut frame = [0u8; 8192];
     let end = written(writer::write(header, pixels, asked, &mut frame));
-    hold_row(row, &frame[0..end], pixels, asked, totals);
+    hold_row(stdout, row, &frame[0..end], pixels, asked, totals)
 }
 
-fn run(row: &[u8], totals: &mut [u32]) {
-    word(row);
+fn run(stdout: &mut Output, row: &[u8], totals: &mut [u32]) -> io::Result<()> {
+    word(stdout, row)?;
     let mut header = [b' '; 7680];
     put_header(&mut header, cell(row, 3), cell(row, 4), cell(row, 2));
     let n = count_of(row);
     let mut pixels = [0u32; 24];
-    write_row(row, &header, &mut pixels[0..n], totals);
+    write_row(stdout, row, &header, &mut pixels[0..n], totals)
 }
 
 fn is_heading(row: &[u8]) -> bool {
     0 < row.len() && row[0] == b'#'
 }
 
-fn run_row(row: &[u8], totals: &mut [u32]) {
+fn run_row(stdout: &mut Output, row: &[u8], totals: &mut [u32]) -> io::Result<()> {
     if is_heading(row) {
-        word(row);
-        word(b"\n");
+        word(stdout, row)?;
+        word(stdout, b"\n")
     } else {
-        run(row, totals);
+        run(stdout, row, totals)
     }
 }
 
-fn run_rows(text: &[u8], totals: &mut [u32]) {
+fn run_rows(stdout: &mut Output, text: &[u8], totals: &mut [u32]) -> io::Result<()> {
     let mut at = 0;
     while at < text.len() {
         let end = find(text, at, b'\n');
-        run_row(&text[at..end], totals);
+        run_row(stdout, &text[at..end], totals)?;
         at = end + 1;
     }
+    Ok(())
 }
 
-fn main() {
-    let mut text = io::large_buffer();
-    let n = io::read_full(STDIN_FILENO, &mut text);
+fn main(rt: HostRuntime) -> io::Result<()> {
+    let mut stdout = console::output(&rt)?;
+    let mut text = [0u8; 65536];
+    let n = console::read_full(&mut rt.stdin(), &mut text)?;
     let mut totals = [0u32; 28];
-    run_rows(&text[..n], &mut totals);
-    word(b"totals");
-    show_tally(&totals);
-    word(b"\n");
+    run_rows(&mut stdout, &text[..n], &mut totals)?;
+    word(&mut stdout, b"totals")?;
+    show_tally(&mut stdout, &totals)?;
+    word(&mut stdout, b"\n")?;
+    stdout.flush()
 }

@@ -1,28 +1,32 @@
 // Reads each frame that its arguments name, all written by FabIO, and prints the pixels. The stored output is FabIO's own reading.
 #![tactic(auto)]
 
-use libc::STDOUT_FILENO;
+use console::Output;
 use reader::ReadAnswer;
+use std::fs::File;
+use std::io::Write;
+use std::{env, fs, io};
 
-fn word(text: &[u8]) {
-    io::write_all(STDOUT_FILENO, text);
+fn word(stdout: &mut Output, text: &[u8]) -> io::Result<()> {
+    stdout.write_all(text)
 }
 
-fn number(text: &[u8], n: u64) {
-    io::write_all(STDOUT_FILENO, text);
-    io::print_decimal(STDOUT_FILENO, n);
+fn number(stdout: &mut Output, text: &[u8], n: u64) -> io::Result<()> {
+    stdout.write_all(text)?;
+    console::print_decimal(stdout, n)
 }
 
-fn show_pixel(v: u32) {
-    number(b" ", v as u64);
+fn show_pixel(stdout: &mut Output, v: u32) -> io::Result<()> {
+    number(stdout, b" ", v as u64)
 }
 
-fn show_pixels(pixels: &[u32]) {
+fn show_pixels(stdout: &mut Output, pixels: &[u32]) -> io::Result<()> {
     let mut i = 0;
     while i < pixels.len() {
-        show_pixel(pixels[i]);
+        show_pixel(stdout, pixels[i])?;
         i += 1;
     }
+    Ok(())
 }
 
 fn pixel_count(rows: u32, columns: u32) -> usize {
@@ -30,58 +34,70 @@ fn pixel_count(rows: u32, columns: u32) -> usize {
 }
 
 // The frame's pixels, at the front of the array.
-fn show_first(pixels: &[u32], n: usize) {
+fn show_first(stdout: &mut Output, pixels: &[u32], n: usize) -> io::Result<()> {
     if n <= pixels.len() {
-        show_pixels(&pixels[..n]);
+        show_pixels(stdout, &pixels[..n])?;
     }
+    Ok(())
 }
 
-fn show_frame(frame: &[u8]) {
+fn show_frame(stdout: &mut Output, frame: &[u8]) -> io::Result<()> {
     let mut pixels = [0u32; 4224];
     let answer = reader::read(frame, &mut pixels);
     match answer {
         ReadAnswer::Frame { rows, columns, end } => {
-            number(b": ", rows as u64);
-            number(b" x ", columns as u64);
-            number(b", end ", end);
-            word(b":");
-            show_first(&pixels, pixel_count(rows, columns));
+            number(stdout, b": ", rows as u64)?;
+            number(stdout, b" x ", columns as u64)?;
+            number(stdout, b", end ", end)?;
+            word(stdout, b":")?;
+            show_first(stdout, &pixels, pixel_count(rows, columns))?;
         }
         ReadAnswer::Refused(r) => {
-            number(b": refused ", refusal::number_of(r) as u64);
+            number(stdout, b": refused ", refusal::number_of(r) as u64)?;
         }
     }
-    word(b"\n");
+    word(stdout, b"\n")
 }
 
 // A frame of at most 65,536 bytes.
-fn show_file(fd: i32) {
-    let mut frame = io::large_buffer();
-    let n = io::read_full(fd, &mut frame);
-    show_frame(&frame[..n]);
+fn show_file(stdout: &mut Output, file: &mut File) -> io::Result<()> {
+    let mut frame = [0u8; 65536];
+    let n = console::read_full(file, &mut frame)?;
+    show_frame(stdout, &frame[..n])
 }
 
-fn show_argument(i: usize) {
-    let mut path = io::buffer();
-    let n = os::arg(i, &mut path);
-    word(&path[..n]);
-    let fd = os::open_read(&path[..n]);
-    if fd < 0 {
-        os::fail(&path[..n]);
-        return;
-    }
-    show_file(fd);
-    libc::close(fd);
-}
-
-fn show_arguments(count: usize) {
-    let mut i = 1;
-    while i < count {
-        show_argument(i);
-        i += 1;
+// An error's words, without its number.
+fn words(text: &str) -> &str {
+    match text.split_once(" (os error ") {
+        Some((before, _)) => before,
+        None => text,
     }
 }
 
-fn main() {
-    show_arguments(os::arg_count());
+// Says on standard error why a file is not read.
+fn fail(rt: &HostRuntime, path: &str, error: io::Error) -> io::Result<()> {
+    let text = format!(in rt.alloc(); "{error}")?;
+    let why = words(text.as_str());
+    eprintln!(rt; "{path}: {why}")
+}
+
+fn show_argument(rt: &HostRuntime, stdout: &mut Output, path: &str) -> io::Result<()> {
+    word(stdout, path.as_bytes())?;
+    match fs::open(rt, path) {
+        Ok(mut file) => show_file(stdout, &mut file),
+        Err(e) => fail(rt, path, e),
+    }
+}
+
+fn show_arguments(rt: &HostRuntime, stdout: &mut Output) -> io::Result<()> {
+    for path in env::args(rt)?.skip(1) {
+        show_argument(rt, stdout, path.as_str())?;
+    }
+    Ok(())
+}
+
+fn main(rt: HostRuntime) -> io::Result<()> {
+    let mut stdout = console::output(&rt)?;
+    show_arguments(&rt, &mut stdout)?;
+    stdout.flush()
 }

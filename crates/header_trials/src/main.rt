@@ -5,11 +5,13 @@
 
 ghost use Rattle.std.specs.Prelude.{◌≤◌, length};
 
+use console::Output;
 use header::HeaderAnswer;
 use header_lines::LineId;
 use layout::{Header, Tables, Underflows};
-use libc::{STDIN_FILENO, STDOUT_FILENO};
 use numeral::Number;
+use std::io;
+use std::io::Write;
 
 // The first place from `at` on that has the byte, or the text's end.
 fn find(text: &[u8], at: usize, byte: u8) -> usize
@@ -43,19 +45,20 @@ fn put(buffer: &mut [u8], from: usize, text: &[u8])
     }
 }
 
-fn word(text: &[u8]) {
-    io::write_all(STDOUT_FILENO, text);
+fn word(stdout: &mut Output, text: &[u8]) -> io::Result<()> {
+    stdout.write_all(text)
 }
 
-fn number(text: &[u8], n: u64) {
-    io::write_all(STDOUT_FILENO, text);
-    io::print_decimal(STDOUT_FILENO, n);
+fn number(stdout: &mut Output, text: &[u8], n: u64) -> io::Result<()> {
+    stdout.write_all(text)?;
+    console::print_decimal(stdout, n)
 }
 
-fn show_underflows(u: Underflows) {
+fn show_underflows(stdout: &mut Output, u: Underflows) -> io::Result<()> {
     match u {
-        Underflows::Unused => word(b" underflows -1"),
+        Underflows::Unused => word(stdout, b" underflows -1"),
         Underflows::NoWidth { baseline } => number(
+            stdout,
             b" underflows 0 of width 0 baseline ",
             baseline as u64,
         ),
@@ -64,45 +67,45 @@ fn show_underflows(u: Underflows) {
             count,
             baseline,
         } => {
-            number(b" underflows ", count as u64);
-            number(b" of width ", layout::entry_bytes(entry) as u64);
-            number(b" baseline ", baseline as u64);
+            number(stdout, b" underflows ", count as u64)?;
+            number(stdout, b" of width ", layout::entry_bytes(entry) as u64)?;
+            number(stdout, b" baseline ", baseline as u64)
         }
     }
 }
 
-fn show_tables(tables: Tables) {
+fn show_tables(stdout: &mut Output, tables: Tables) -> io::Result<()> {
     match tables {
-        Tables::Format86 { entries } => number(b" entries ", entries as u64),
+        Tables::Format86 { entries } => number(stdout, b" entries ", entries as u64),
         Tables::Format100(t) => {
             let u = t.underflows;
-            show_underflows(u);
-            number(b" two ", t.two as u64);
-            number(b" four ", t.four as u64);
+            show_underflows(stdout, u)?;
+            number(stdout, b" two ", t.two as u64)?;
+            number(stdout, b" four ", t.four as u64)
         }
     }
 }
 
-fn show_header(h: Header) {
+fn show_header(stdout: &mut Output, h: Header) -> io::Result<()> {
     let image = h.image;
-    number(b" -> accepted, length ", image.start as u64);
-    number(b" rows ", image.rows as u64);
-    number(b" columns ", image.columns as u64);
+    number(stdout, b" -> accepted, length ", image.start as u64)?;
+    number(stdout, b" rows ", image.rows as u64)?;
+    number(stdout, b" columns ", image.columns as u64)?;
     let width = image.width;
-    number(b" width ", layout::width_bytes(width) as u64);
+    number(stdout, b" width ", layout::width_bytes(width) as u64)?;
     let tables = h.tables;
-    show_tables(tables);
+    show_tables(stdout, tables)
 }
 
-fn show(bytes: &[u8]) {
+fn show(stdout: &mut Output, bytes: &[u8]) -> io::Result<()> {
     match header::read_header(bytes) {
-        HeaderAnswer::Accepted(h) => show_header(h),
+        HeaderAnswer::Accepted(h) => show_header(stdout, h)?,
         HeaderAnswer::Refused(r) => {
-            number(b" -> refused ", refusal::number_of(r) as u64);
-            number(b" place ", refusal::place_of(r) as u64);
+            number(stdout, b" -> refused ", refusal::number_of(r) as u64)?;
+            number(stdout, b" place ", refusal::place_of(r) as u64)?;
         }
     }
-    word(b"\n");
+    word(stdout, b"\n")
 }
 
 fn line_id(k: usize) -> LineId {
@@ -157,32 +160,35 @@ fn given(cell: &[u8]) -> usize
     if n <= 32768 { n as usize } else { 32768 }
 }
 
-fn run(row: &[u8]) {
-    word(row);
+fn run(stdout: &mut Output, row: &[u8]) -> io::Result<()> {
+    word(stdout, row)?;
     let first = find(row, 0, b'|');
     let mut buffer = [b' '; 32768];
     put_lines(&mut buffer, &row[first..]);
     let n = given(&row[..first]);
-    show(&buffer[..n]);
+    show(stdout, &buffer[..n])
 }
 
-fn run_rows(text: &[u8]) {
+fn run_rows(stdout: &mut Output, text: &[u8]) -> io::Result<()> {
     let mut at = 0;
     while at < text.len() {
         let end = find(text, at, b'\n');
         let row = &text[at..end];
         if text[at] == b'#' {
-            word(row);
-            word(b"\n");
+            word(stdout, row)?;
+            word(stdout, b"\n")?;
         } else {
-            run(row);
+            run(stdout, row)?;
         }
         at = end + 1;
     }
+    Ok(())
 }
 
-fn main() {
-    let mut text = io::large_buffer();
-    let n = io::read_full(STDIN_FILENO, &mut text);
-    run_rows(&text[..n]);
+fn main(rt: HostRuntime) -> io::Result<()> {
+    let mut stdout = console::output(&rt)?;
+    let mut text = [0u8; 65536];
+    let n = console::read_full(&mut rt.stdin(), &mut text)?;
+    run_rows(&mut stdout, &text[..n])?;
+    stdout.flush()
 }

@@ -1,21 +1,25 @@
 // Prints the listing of the ledger that it reads from standard input.
 #![tactic(auto)]
 
-use libc::{STDIN_FILENO, STDOUT_FILENO};
+use console::Output;
 use listing::ListAnswer;
+use std::io;
+use std::io::Write;
 
-fn show(ledger: &[u8], out: &mut [u8]) {
+fn show(stdout: &mut Output, ledger: &[u8], out: &mut [u8]) -> io::Result<()> {
     let ListAnswer::Listed { used } = listing::list(ledger, out) else {
-        return;
+        return Ok(());
     };
     let start = out.len() - used;
-    io::write_all(STDOUT_FILENO, &out[start..]);
+    stdout.write_all(&out[start..])
 }
 
-fn main() {
+fn main(rt: HostRuntime) -> io::Result<()> {
+    let mut stdout = console::output(&rt)?;
     // One byte more than the longest ledger, so that a longer one is seen; and 32 bytes and 80 for each of 4,096 lines.
     let mut ledger = [0u8; 65537];
     let mut out = [0u8; 327712];
-    let n = io::read_full(STDIN_FILENO, &mut ledger);
-    show(&ledger[..n], &mut out);
+    let n = console::read_full(&mut rt.stdin(), &mut ledger)?;
+    show(&mut stdout, &ledger[..n], &mut out)?;
+    stdout.flush()
 }

@@ -6,9 +6,11 @@
 
 ghost use Rattle.std.specs.Prelude.{◌≡◌, ◌+◌, ◌≤◌, ◌<◌, length};
 
-use libc::{STDIN_FILENO, STDOUT_FILENO};
+use console::Output;
 use numeral::Number;
 use reader::ReadAnswer;
+use std::io;
+use std::io::Write;
 
 // The first place from `at` on that has the byte, or the text's end.
 fn find(text: &[u8], at: usize, byte: u8) -> usize
@@ -42,13 +44,13 @@ fn put(buffer: &mut [u8], from: usize, text: &[u8])
     }
 }
 
-fn word(text: &[u8]) {
-    io::write_all(STDOUT_FILENO, text);
+fn word(stdout: &mut Output, text: &[u8]) -> io::Result<()> {
+    stdout.write_all(text)
 }
 
-fn number(text: &[u8], n: u64) {
-    io::write_all(STDOUT_FILENO, text);
-    io::print_decimal(STDOUT_FILENO, n);
+fn number(stdout: &mut Output, text: &[u8], n: u64) -> io::Result<()> {
+    stdout.write_all(text)?;
+    console::print_decimal(stdout, n)
 }
 
 // A number of a row, at most 10000; 0 where there is none.
@@ -195,37 +197,38 @@ fn put_lines(buffer: &mut [u8], row: &[u8]) -> usize
     at
 }
 
-fn show_pixel(v: u32) {
-    number(b" ", v as u64);
+fn show_pixel(stdout: &mut Output, v: u32) -> io::Result<()> {
+    number(stdout, b" ", v as u64)
 }
 
-fn show_pixels(pixels: &[u32]) {
+fn show_pixels(stdout: &mut Output, pixels: &[u32]) -> io::Result<()> {
     let mut i = 0;
     while i < pixels.len() {
-        show_pixel(pixels[i]);
+        show_pixel(stdout, pixels[i])?;
         i += 1;
     }
+    Ok(())
 }
 
-fn show(answer: ReadAnswer) {
+fn show(stdout: &mut Output, answer: ReadAnswer) -> io::Result<()> {
     match answer {
         ReadAnswer::Frame { rows, columns, end } => {
-            number(b" -> frame ", rows as u64);
-            number(b" x ", columns as u64);
-            number(b" end ", end);
+            number(stdout, b" -> frame ", rows as u64)?;
+            number(stdout, b" x ", columns as u64)?;
+            number(stdout, b" end ", end)
         }
         ReadAnswer::Refused(r) => {
-            number(b" -> refused ", refusal::number_of(r) as u64);
-            number(b" place ", refusal::place_of(r) as u64);
+            number(stdout, b" -> refused ", refusal::number_of(r) as u64)?;
+            number(stdout, b" place ", refusal::place_of(r) as u64)
         }
     }
 }
 
-fn read_into(frame: &[u8], pixels: &mut [u32]) {
-    show(reader::read(frame, pixels));
-    word(b" [");
-    show_pixels(pixels);
-    word(b" ]\n");
+fn read_into(stdout: &mut Output, frame: &[u8], pixels: &mut [u32]) -> io::Result<()> {
+    show(stdout, reader::read(frame, pixels))?;
+    word(stdout, b" [")?;
+    show_pixels(stdout, pixels)?;
+    word(stdout, b" ]\n")
 }
 
 // The array has as many places as the row says, at most 640.
@@ -246,8 +249,8 @@ fn put_rest(buffer: &mut [u8], row: &[u8], at: usize) -> usize
     7680
 }
 
-fn run(row: &[u8]) {
-    word(row);
+fn run(stdout: &mut Output, row: &[u8]) -> io::Result<()> {
+    word(stdout, row)?;
     let mut buffer = [0u8; 16384];
     put_plain(&mut buffer);
     let body = put_lines(&mut buffer, row);
@@ -255,26 +258,29 @@ fn run(row: &[u8]) {
     let mut pixels = [9u32; 640];
     let first = find(row, 0, b'|');
     let n = places(value(&row[..first]));
-    read_into(&buffer[..length], &mut pixels[..n]);
+    read_into(stdout, &buffer[..length], &mut pixels[..n])
 }
 
-fn run_rows(text: &[u8]) {
+fn run_rows(stdout: &mut Output, text: &[u8]) -> io::Result<()> {
     let mut at = 0;
     while at < text.len() {
         let end = find(text, at, b'\n');
         let row = &text[at..end];
         if text[at] == b'#' {
-            word(row);
-            word(b"\n");
+            word(stdout, row)?;
+            word(stdout, b"\n")?;
         } else {
-            run(row);
+            run(stdout, row)?;
         }
         at = end + 1;
     }
+    Ok(())
 }
 
-fn main() {
-    let mut text = io::large_buffer();
-    let n = io::read_full(STDIN_FILENO, &mut text);
-    run_rows(&text[..n]);
+fn main(rt: HostRuntime) -> io::Result<()> {
+    let mut stdout = console::output(&rt)?;
+    let mut text = [0u8; 65536];
+    let n = console::read_full(&mut rt.stdin(), &mut text)?;
+    run_rows(&mut stdout, &text[..n])?;
+    stdout.flush()
 }

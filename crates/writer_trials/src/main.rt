@@ -8,12 +8,14 @@
 
 ghost use Rattle.std.specs.Prelude.{◌≡◌, ◌+◌, ◌≤◌, ◌<◌, length};
 
+use console::Output;
 use header::HeaderAnswer;
 use header_lines::LineId;
 use layout::{EntryAnswer, Form, Image, Underflow, Width, WidthAnswer};
-use libc::{STDIN_FILENO, STDOUT_FILENO};
 use numeral::Number;
 use reader::ReadAnswer;
+use std::io;
+use std::io::Write;
 use writer::{AskedForm, WriteAnswer};
 
 // The first place from `at` on that has the byte, or the text's end.
@@ -200,22 +202,22 @@ fn asked_form(text: &[u8]) -> AskedForm {
     }
 }
 
-fn word(text: &[u8]) {
-    io::write_all(STDOUT_FILENO, text);
+fn word(stdout: &mut Output, text: &[u8]) -> io::Result<()> {
+    stdout.write_all(text)
 }
 
-fn number(text: &[u8], n: u64) {
-    io::write_all(STDOUT_FILENO, text);
-    io::print_decimal(STDOUT_FILENO, n);
+fn number(stdout: &mut Output, text: &[u8], n: u64) -> io::Result<()> {
+    stdout.write_all(text)?;
+    console::print_decimal(stdout, n)
 }
 
 // One of two words.
-fn judge(text: &[u8], good: bool) {
-    word(text);
+fn judge(stdout: &mut Output, text: &[u8], good: bool) -> io::Result<()> {
+    word(stdout, text)?;
     if good {
-        word(b" ok");
+        word(stdout, b" ok")
     } else {
-        word(b" WRONG");
+        word(stdout, b" WRONG")
     }
 }
 
@@ -266,24 +268,25 @@ fn kept(given: &[u8], out: &[u8], start: usize) -> bool {
     false
 }
 
-fn show_part(out: &[u8], from: usize, to: usize) {
+fn show_part(stdout: &mut Output, out: &[u8], from: usize, to: usize) -> io::Result<()> {
     let end = least(to, out.len());
     let start = least(from, end);
-    word(b"[");
-    word(&out[start..end]);
-    word(b"]");
+    word(stdout, b"[")?;
+    word(stdout, &out[start..end])?;
+    word(stdout, b"]")
 }
 
-fn show_byte(byte: u8) {
-    io::print_hex(STDOUT_FILENO, byte as u64, 2);
+fn show_byte(stdout: &mut Output, byte: u8) -> io::Result<()> {
+    console::print_hex(stdout, byte)
 }
 
-fn show_bytes(bytes: &[u8]) {
+fn show_bytes(stdout: &mut Output, bytes: &[u8]) -> io::Result<()> {
     let mut i = 0;
     while i < bytes.len() {
-        show_byte(bytes[i]);
+        show_byte(stdout, bytes[i])?;
         i += 1;
     }
+    Ok(())
 }
 
 // The frame is read to its end and gives the image's pixels, and they are written as the same frame.
@@ -326,48 +329,57 @@ fn writes_again(out: &[u8], end: usize, pixels: &[u32], asked: AskedForm, again:
 }
 
 fn show_frame(
+    stdout: &mut Output,
     given: &[u8],
     image: Image,
     pixels: &[u32],
     asked: AskedForm,
     out: &[u8],
     length: usize,
-) {
+) -> io::Result<()> {
     let end = least(length, out.len());
     let start = least(image.start as usize, end);
-    number(b" -> length ", length as u64);
-    word(b" NOVERFL");
-    show_part(out, 1608, 1680);
-    word(b" NPIXELB");
-    show_part(out, 3128, 3200);
-    word(b" ");
-    show_bytes(&out[start..end]);
-    judge(b" header", kept(given, out, start));
-    judge(b" tail", all_are(&out[end..], 0));
-    judge(b" back", reads_back(out, end, image, pixels, asked));
+    number(stdout, b" -> length ", length as u64)?;
+    word(stdout, b" NOVERFL")?;
+    show_part(stdout, out, 1608, 1680)?;
+    word(stdout, b" NPIXELB")?;
+    show_part(stdout, out, 3128, 3200)?;
+    word(stdout, b" ")?;
+    show_bytes(stdout, &out[start..end])?;
+    judge(stdout, b" header", kept(given, out, start))?;
+    judge(stdout, b" tail", all_are(&out[end..], 0))?;
+    judge(stdout, b" back", reads_back(out, end, image, pixels, asked))
 }
 
-fn write_row(given: &[u8], pixels: &[u32], asked: AskedForm, out: &mut [u8]) {
+fn write_row(
+    stdout: &mut Output,
+    given: &[u8],
+    pixels: &[u32],
+    asked: AskedForm,
+    out: &mut [u8],
+) -> io::Result<()> {
     let answer = writer::write(given, pixels, asked, out);
     let WriteAnswer::Written { length } = answer else {
-        show_refusal(answer);
-        judge(b" output", all_are(out, 170));
-        return;
+        show_refusal(stdout, answer)?;
+        judge(stdout, b" output", all_are(out, 170))?;
+        return Ok(());
     };
     if let HeaderAnswer::Accepted(h) = header::read_header(given) {
         let image = h.image;
-        show_frame(given, image, pixels, asked, out, length as usize);
+        show_frame(stdout, given, image, pixels, asked, out, length as usize)?;
     }
+    Ok(())
 }
 
-fn show_refusal(answer: WriteAnswer) {
+fn show_refusal(stdout: &mut Output, answer: WriteAnswer) -> io::Result<()> {
     if let WriteAnswer::Refused(r) = answer {
-        number(b" -> refused ", refusal::number_of(r) as u64);
+        number(stdout, b" -> refused ", refusal::number_of(r) as u64)?;
     }
+    Ok(())
 }
 
-fn run(row: &[u8]) {
-    word(row);
+fn run(stdout: &mut Output, row: &[u8]) -> io::Result<()> {
+    word(stdout, row)?;
     let mut header = [b' '; 8192];
     put_lines(&mut header, row);
     let given = least(value(cell(row, 0)) as usize, 8192);
@@ -376,31 +388,35 @@ fn run(row: &[u8]) {
     let room = least(value(cell(row, 11)) as usize, 16384);
     let mut out = [170u8; 16384];
     write_row(
+        stdout,
         &header[0..given],
         &pixels[0..n],
         asked_form(cell(row, 10)),
         &mut out[0..room],
-    );
-    word(b"\n");
+    )?;
+    word(stdout, b"\n")
 }
 
-fn run_rows(text: &[u8]) {
+fn run_rows(stdout: &mut Output, text: &[u8]) -> io::Result<()> {
     let mut at = 0;
     while at < text.len() {
         let end = find(text, at, b'\n');
         let row = &text[at..end];
         if text[at] == b'#' {
-            word(row);
-            word(b"\n");
+            word(stdout, row)?;
+            word(stdout, b"\n")?;
         } else {
-            run(row);
+            run(stdout, row)?;
         }
         at = end + 1;
     }
+    Ok(())
 }
 
-fn main() {
-    let mut text = io::large_buffer();
-    let n = io::read_full(STDIN_FILENO, &mut text);
-    run_rows(&text[..n]);
+fn main(rt: HostRuntime) -> io::Result<()> {
+    let mut stdout = console::output(&rt)?;
+    let mut text = [0u8; 65536];
+    let n = console::read_full(&mut rt.stdin(), &mut text)?;
+    run_rows(&mut stdout, &text[..n])?;
+    stdout.flush()
 }
