@@ -1,6 +1,5 @@
 -- Document 01, "The ledger" and "Numbers given back", and document 02, A6: correction, withdrawal and amending, over the held buffer and the ledger.
-use Rattle.std.specs.Prelude.{ℕ, ◌+◌, not, List, [], ◌∷◌, length, get_or, eqb, leb, ltb}
-use Rattle.lists.specs.Choose.{if◌then◌else◌}
+use Rattle.std.specs.Prelude.{ℕ, ◌+◌, not, List, [], ◌∷◌, length, get_or, eqb, leb, ltb, if◌then◌else◌}
 use Rattle.refusal.specs.declared.Refusal.{Refusal}
 use Rattle.refusal.specs.declared.Refusal.TheVariants as R
 use Rattle.calendar.specs.declared.Date.{Date}

@@ -10,7 +10,7 @@ use lib.ListN.{length, take, drop, get_or, length-take, length-drop}
 use lib.Seq.{drop-drop, take_all, take-take, get_or-drop}
 use lib.Dec.{leb}
 use borrow.Author.Tests.{le-leb, lt-leb, leb-true, leb-false}
-use Rattle.lists.specs.Choose.{if◌then◌else◌}
+use Rattle.std.specs.Prelude.{if◌then◌else◌}
 use Rattle.lists.specs.Bytes.{little, big_from, big, chunked}
 use Rattle.lists.proofs.Parts.{drop-take}
 use Rattle.lists.proofs.Chunks.{chunked-length, chunked-at, chunked-part, chunked-front}

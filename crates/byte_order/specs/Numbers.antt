@@ -1,6 +1,5 @@
 -- Request A2: numbers in the byte order of the machine that wrote the file.
-use Rattle.std.specs.Prelude.{ℕ, suc, ◌*◌, List, length, take, drop, leb}
-use Rattle.lists.specs.Choose.{if◌then◌else◌}
+use Rattle.std.specs.Prelude.{ℕ, suc, ◌*◌, List, length, take, drop, leb, if◌then◌else◌}
 use Rattle.lists.specs.Bytes.{little, big, chunked}
 use Rattle.byte_order.specs.declared.ByteOrder.{ByteOrder}
 use Rattle.byte_order.specs.declared.ByteOrder.TheVariants as O

@@ -1,8 +1,7 @@
 // Numbers in either byte order.
 #![tactic(auto)]
 
-ghost use Rattle.std.specs.Prelude.{◌≡◌, ◌+◌, ◌*◌, ◌/◌, ◌%◌, ◌<◌, ◌≤◌, length, drop, leb};
-ghost use Rattle.lists.specs.Choose.{if◌then◌else◌};
+ghost use Rattle.std.specs.Prelude.{◌≡◌, ◌+◌, ◌*◌, ◌/◌, ◌%◌, ◌<◌, ◌≤◌, length, drop, leb, if◌then◌else◌};
 ghost use Rattle.lists.specs.Bytes.{little};
 ghost use Rattle.lists.specs.Parts.{with_part};
 ghost use Rattle.layout.specs.Form.{width_bytes};

@@ -1,6 +1,5 @@
 -- Document 01, "The ledger": dates are Gregorian, years 1 to 4095.
-use Rattle.std.specs.Prelude.{ℕ, ◌+◌, ◌/◌, ◌%◌, Bool, not, ◌&&◌, ◌||◌, eqb, leb, ltb}
-use Rattle.lists.specs.Choose.{if◌then◌else◌}
+use Rattle.std.specs.Prelude.{ℕ, ◌+◌, ◌/◌, ◌%◌, Bool, not, ◌&&◌, ◌||◌, eqb, leb, ltb, if◌then◌else◌}
 use Rattle.calendar.specs.declared.Date.{Date}
 
 -- every fourth year, but of the full centuries only every fourth

@@ -10,7 +10,7 @@ use borrow.Author.Tests.{le-leb, leb-true, leb-false, le-ltb, ltb-false}
 use lib.Dec.{leb}
 use lib.ListN.{length, take, drop, get_or}
 use lib.Seq.{take_at, drop_at, length-take-le}
-use Rattle.lists.specs.Choose.{if◌then◌else◌}
+use Rattle.std.specs.Prelude.{if◌then◌else◌}
 use Rattle.lists.specs.Bytes.{zeros, held_bytes, same_bytes}
 use Rattle.lists.proofs.Tests.{and-true-left, and-true-right}
 use Rattle.lists.proofs.Same.{same_refl}

@@ -1,7 +1,6 @@
 -- What the code looks at, part by part: header lines, paddings, and the numbers of the image and of each table. No public contract
 -- cites this file; proofs/Decides.antt has that it comes to the same as refusal 19.
-use Rattle.std.specs.Prelude.{ℕ, ◌+◌, ◌-◌, Bool, true, not, ◌&&◌, List, [], ◌∷◌, length, get_or, take, drop, eqb, leb}
-use Rattle.lists.specs.Choose.{if◌then◌else◌}
+use Rattle.std.specs.Prelude.{ℕ, ◌+◌, ◌-◌, Bool, true, not, ◌&&◌, List, [], ◌∷◌, length, get_or, take, drop, eqb, leb, if◌then◌else◌}
 use Rattle.layout.specs.declared.Width.{Width}
 use Rattle.layout.specs.declared.Width.TheVariants as W
 use Rattle.layout.specs.declared.Underflow.{Underflow}

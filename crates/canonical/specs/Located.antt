@@ -1,6 +1,5 @@
 -- Refusal 19 and a pixel's place, by the reader's and the writer's definitions.
-use Rattle.std.specs.Prelude.{ℕ, not, List, get_or, take, leb}
-use Rattle.lists.specs.Choose.{if◌then◌else◌}
+use Rattle.std.specs.Prelude.{ℕ, not, List, get_or, take, leb, if◌then◌else◌}
 use Rattle.layout.specs.declared.Width.TheVariants as W
 use Rattle.layout.specs.declared.Underflow.TheVariants as U
 use Rattle.layout.specs.declared.Tables.{Tables}

@@ -1,6 +1,5 @@
 -- What the private functions say of themselves: the check over the parts of a frame. No public contract cites this file.
-use Rattle.std.specs.Prelude.{ℕ, ◌≡◌, not, List, length, take, leb}
-use Rattle.lists.specs.Choose.{if◌then◌else◌}
+use Rattle.std.specs.Prelude.{ℕ, ◌≡◌, not, List, length, take, leb, if◌then◌else◌}
 use Rattle.layout.specs.declared.Width.{Width}
 use Rattle.layout.specs.declared.Underflow.{Underflow}
 use Rattle.layout.specs.declared.Underflow.TheVariants as U

@@ -10,7 +10,7 @@ use lib.ListN.{length, take, drop, get_or, length-take, length-drop, get_or-eq_d
 use lib.Seq.{take-add, take-take, drop_at, take-append-le, length-take-le, get_or-take, get_or-drop}
 use lib.Dec.{eqb, ltb}
 use borrow.Author.Tests.{lt-ltb, le-ltb, ltb-true, ltb-false, eq-eqb, ne_eqb}
-use Rattle.lists.specs.Choose.{if◌then◌else◌}
+use Rattle.std.specs.Prelude.{if◌then◌else◌}
 use Rattle.lists.specs.Bytes.{big}
 use Rattle.ledger.specs.declared.Line.{Line}
 use Rattle.ledger.specs.declared.LineAnswer.{LineAnswer}

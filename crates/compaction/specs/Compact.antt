@@ -1,6 +1,5 @@
 -- Request A8, compaction: a ledger of its standing lines alone.
-use Rattle.std.specs.Prelude.{ℕ, ◌-◌, ◌*◌, List, ◌++◌, length, drop}
-use Rattle.lists.specs.Choose.{if◌then◌else◌}
+use Rattle.std.specs.Prelude.{ℕ, ◌-◌, ◌*◌, List, ◌++◌, length, drop, if◌then◌else◌}
 use Rattle.lists.specs.Bytes.{zeros}
 use Rattle.refusal.specs.declared.Refusal.TheVariants as R
 use Rattle.ledger.specs.declared.Line.{Line}

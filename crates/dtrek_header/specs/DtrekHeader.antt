@@ -1,6 +1,5 @@
 -- Request A9: what a d*TREK header says, for any bytes. Refusals 32, 1, 33, 34 and 35 in this order.
-use Rattle.std.specs.Prelude.{ℕ, ◌≤◌, List, not, length, ltb}
-use Rattle.lists.specs.Choose.{if◌then◌else◌}
+use Rattle.std.specs.Prelude.{ℕ, ◌≤◌, List, not, length, ltb, if◌then◌else◌}
 use Rattle.dtrek_text.specs.Bytes.{between}
 use Rattle.dtrek_text.specs.Items.{Item, items}
 use Rattle.dtrek_items.specs.Survey.{is_malformed}

@@ -1,6 +1,5 @@
 -- Request A9: what reading a d*TREK image answers and leaves in the pixel array, for any bytes.
-use Rattle.std.specs.Prelude.{ℕ, ◌+◌, ◌*◌, List, ◌++◌, length, drop, ltb}
-use Rattle.lists.specs.Choose.{if◌then◌else◌}
+use Rattle.std.specs.Prelude.{ℕ, ◌+◌, ◌*◌, List, ◌++◌, length, drop, ltb, if◌then◌else◌}
 use Rattle.layout.specs.declared.Image.{Image}
 use Rattle.layout.specs.Form.{width_bytes}
 use Rattle.layout.specs.Layout.{pixel_count, image_end}

@@ -1,6 +1,5 @@
 -- Keywords in order, by the places where they start. For the contracts of private functions.
-use Rattle.std.specs.Prelude.{ℕ, ◌-◌, ◌≤◌, ◌<◌, ◌≡◌, List, [], ◌∷◌, map, Bool, true, false, ◌||◌, length, get_or, ltb}
-use Rattle.lists.specs.Choose.{if◌then◌else◌}
+use Rattle.std.specs.Prelude.{ℕ, ◌-◌, ◌≤◌, ◌<◌, ◌≡◌, List, [], ◌∷◌, map, Bool, true, false, ◌||◌, length, get_or, ltb, if◌then◌else◌}
 use Rattle.lists.specs.Bytes.{same_bytes}
 use Rattle.dtrek_text.specs.Bytes.{keyword_at}
 use Rattle.dtrek_items.specs.declared.Order.{Order}

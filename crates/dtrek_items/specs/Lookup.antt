@@ -1,6 +1,5 @@
 -- Request A9: the value under a keyword, and a keyword that stands twice.
-use Rattle.std.specs.Prelude.{ℕ, List, [], ◌∷◌, Bool, false, ◌||◌}
-use Rattle.lists.specs.Choose.{if◌then◌else◌}
+use Rattle.std.specs.Prelude.{ℕ, List, [], ◌∷◌, Bool, false, ◌||◌, if◌then◌else◌}
 use Rattle.lists.specs.Bytes.{same_bytes}
 use Rattle.dtrek_text.specs.Items.{Item}
 

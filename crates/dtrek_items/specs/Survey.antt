@@ -1,7 +1,6 @@
 -- Request A9: a header's items in one pass. Where the values that are read stand is for the code to choose; what is said of the
 -- places is that they give each keyword's value.
-use Rattle.std.specs.Prelude.{ℕ, ◌≤◌, ◌<◌, ◌≡◌, List, Bool, true, false, not, ◌||◌, length, eqb}
-use Rattle.lists.specs.Choose.{if◌then◌else◌}
+use Rattle.std.specs.Prelude.{ℕ, ◌≤◌, ◌<◌, ◌≡◌, List, Bool, true, false, not, ◌||◌, length, eqb, if◌then◌else◌}
 use Rattle.lists.specs.Text.{codes}
 use Rattle.lists.specs.Bytes.{same_bytes}
 use Rattle.dtrek_text.specs.Bytes.{between, trimmed}

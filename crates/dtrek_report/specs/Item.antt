@@ -1,6 +1,5 @@
 -- Request A9: where an item of a d*TREK header stands in the file, read on from a place.
-use Rattle.std.specs.Prelude.{ℕ, suc, ◌+◌, List, length, take, ltb}
-use Rattle.lists.specs.Choose.{if◌then◌else◌}
+use Rattle.std.specs.Prelude.{ℕ, suc, ◌+◌, List, length, take, ltb, if◌then◌else◌}
 use Rattle.refusal.specs.declared.Refusal.{Refusal}
 use Rattle.refusal.specs.declared.Refusal.TheVariants as R
 use Rattle.refusal.specs.Codes.{refusal_number}

@@ -5,7 +5,7 @@ use mathlib.Core.Bool.{or-false}
 use mathlib.Core.List.{map-append}
 use lib.Seq.{append_snoc, set-get_or}
 use borrow.Author.Tests.{eqb-false}
-use Rattle.lists.specs.Choose.{if◌then◌else◌}
+use Rattle.std.specs.Prelude.{if◌then◌else◌}
 use Rattle.expand.specs.Steps.{fill_by, count, sum_too_large, any_too_large}
 use Rattle.expand.proofs.Steps.{count-more}
 

@@ -4,7 +4,7 @@ use Rattle.std.proofs.Common.{◌≡◌, ℕ, suc, ◌+◌, ◌-◌, ◌*◌, �
 use mathlib.Core.Bool.{or-false}
 use lib.Seq.{set_split}
 use borrow.Rule.Slice.PartMut.{put_mid}
-use Rattle.lists.specs.Choose.{if◌then◌else◌}
+use Rattle.std.specs.Prelude.{if◌then◌else◌}
 use Rattle.table.specs.Table.{entries}
 use Rattle.table.proofs.Laws.{entries-bytes, entries-part}
 use Rattle.expand.specs.Steps.{fill_by, replace, count, sum_too_large, any_too_large}

@@ -1,7 +1,7 @@
 -- Laws of the steps: on a list and then on another, and where no mark stands.
 -- Assumes nothing.
 use Rattle.std.proofs.Common.{◌≡◌, ℕ, suc, ◌+◌, ◌%◌, ◌<◌, ◌≤◌, Bool, true, false, not, ◌&&◌, ◌||◌, eqb, ltb, List, [], ◌∷◌, ◌++◌, map, length, get_or, drop, sym, refl, ap, ◌∙◌, arith, drop-drop, ltb-false, le-ltb, lt-ltb, ne_eqb}
-use Rattle.lists.specs.Choose.{if◌then◌else◌}
+use Rattle.std.specs.Prelude.{if◌then◌else◌}
 use Rattle.expand.specs.Steps.{fill_by, replace, count, sum_too_large, any_too_large}
 use Rattle.expand.specs.Blocks.{wrapped, wrap_if}
 

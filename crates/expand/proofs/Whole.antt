@@ -3,7 +3,7 @@
 use Rattle.std.proofs.Common.{◌≡◌, ℕ, ◌+◌, ◌-◌, ◌*◌, ◌<◌, ◌≤◌, Bool, true, false, ◌&&◌, ◌||◌, eqb, ltb, leb, List, [], ◌++◌, map, length, get_or, take, drop, sym, refl, ap, ◌∙◌, append_assoc, mul-le-mul_right, add-mul, arith, length-append, length-drop, take-append-drop, length-take, length-take-le, take_all, get_or-take, drop-drop, take_at, take-add, drop_at, le-leb}
 use mathlib.Core.Bool.{or-false}
 use borrow.Rule.Slice.PartMut.{put_mid}
-use Rattle.lists.specs.Choose.{if◌then◌else◌}
+use Rattle.std.specs.Prelude.{if◌then◌else◌}
 use Rattle.table.specs.Table.{entries}
 use Rattle.table.proofs.Laws.{entries-bytes, entries-part}
 use Rattle.expand.specs.Steps.{Stored, fill_by, replace, count, any_too_large, applies_a, applies_b, after_a, after_b, after_c, exhausted}

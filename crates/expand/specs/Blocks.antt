@@ -1,6 +1,5 @@
 -- What the private functions say of themselves: the steps on one block of pixels, and on all blocks so far. No public contract cites this file.
-use Rattle.std.specs.Prelude.{◌≡◌, ℕ, ◌+◌, ◌-◌, ◌%◌, ◌≤◌, Bool, true, false, not, ◌||◌, List, take, drop}
-use Rattle.lists.specs.Choose.{if◌then◌else◌}
+use Rattle.std.specs.Prelude.{◌≡◌, ℕ, ◌+◌, ◌-◌, ◌%◌, ◌≤◌, Bool, true, false, not, ◌||◌, List, take, drop, if◌then◌else◌}
 use Rattle.lists.specs.Bytes.{zeros}
 use Rattle.refusal.specs.declared.Refusal.TheVariants as R
 use Rattle.layout.specs.declared.EntryWidth.TheVariants as E

@@ -1,6 +1,5 @@
 -- Document 01, "Expanding pixels", FORMAT 100: steps a, b and c, each over the whole list with its own table.
-use Rattle.std.specs.Prelude.{ℕ, suc, ◌+◌, Bool, false, not, ◌&&◌, ◌||◌, List, [], ◌∷◌, length, drop, ◌==◌, nat_lt, slice_index}
-use Rattle.lists.specs.Choose.{if◌then◌else◌}
+use Rattle.std.specs.Prelude.{ℕ, suc, ◌+◌, Bool, false, not, ◌&&◌, ◌||◌, List, [], ◌∷◌, length, drop, ◌==◌, nat_lt, slice_index, if◌then◌else◌}
 
 -- a frame in values: the stored image and the entries of the three tables
 pub record Stored : Type 0 where

@@ -1,8 +1,7 @@
 // FORMAT 100: from the bytes of an image and its tables to pixels, in one pass over blocks of pixels.
 #![tactic(auto)]
 
-ghost use Rattle.std.specs.Prelude.{◌≡◌, ◌+◌, ◌*◌, ◌^◌, ◌<◌, ◌≤◌, true, false, ◌&&◌, ◌||◌, [], ◌∷◌, map, length, drop, ◌==◌, nat_lt, slice_index};
-ghost use Rattle.lists.specs.Choose.{if◌then◌else◌};
+ghost use Rattle.std.specs.Prelude.{◌≡◌, ◌+◌, ◌*◌, ◌^◌, ◌<◌, ◌≤◌, true, false, ◌&&◌, ◌||◌, [], ◌∷◌, map, length, drop, ◌==◌, nat_lt, slice_index, if◌then◌else◌};
 ghost use Rattle.layout.specs.Form.{width_bytes, entry_bytes};
 ghost use Rattle.layout.specs.Layout.{pixel_count, binary_end};
 ghost use Rattle.layout.specs.declared.Width.TheVariants.{One, Four};

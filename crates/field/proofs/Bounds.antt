@@ -8,7 +8,7 @@ use native.Mathlib.Omega.{arith}
 use borrow.Author.Tests.{eqb-false}
 use lib.Dec.{eqb}
 use lib.ListN.{length, drop, length-drop}
-use Rattle.lists.specs.Choose.{if◌then◌else◌}
+use Rattle.std.specs.Prelude.{if◌then◌else◌}
 use Rattle.numeral.specs.Runs.{in_class, leading, passed}
 use Rattle.numeral.specs.declared.Class.TheVariants.{Space, Other}
 use Rattle.numeral.proofs.Runs.{leading_le}

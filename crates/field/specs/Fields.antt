@@ -1,6 +1,5 @@
 -- Document 01, "The header": fields are runs of characters other than space, taken in order.
-use Rattle.std.specs.Prelude.{ℕ, ◌-◌, List, take, drop, eqb}
-use Rattle.lists.specs.Choose.{if◌then◌else◌}
+use Rattle.std.specs.Prelude.{ℕ, ◌-◌, List, take, drop, eqb, if◌then◌else◌}
 use Rattle.numeral.specs.Runs.{in_class, leading, passed}
 use Rattle.numeral.specs.Numerals.{number_of, version_of, is_minus_one, decimal_is}
 use Rattle.numeral.specs.declared.Class.TheVariants.{Space, Other}

@@ -1,6 +1,5 @@
 -- Document 02, A14: of forms with the lengths of their frames, the first of the shortest.
-use Rattle.std.specs.Prelude.{ℕ, ◌+◌, ◌*◌, List, [], ◌∷◌, leb}
-use Rattle.lists.specs.Choose.{if◌then◌else◌}
+use Rattle.std.specs.Prelude.{ℕ, ◌+◌, ◌*◌, List, [], ◌∷◌, leb, if◌then◌else◌}
 use Rattle.refusal.specs.declared.Refusal.TheVariants.{FormUnavailable}
 use Rattle.layout.specs.declared.Width.{Width}
 use Rattle.layout.specs.declared.Width.TheVariants as W

@@ -1,6 +1,5 @@
 -- Each form by what the survey counted: the length of its frame, or its refusal.
-use Rattle.std.specs.Prelude.{ℕ, ◌+◌, ◌*◌, Bool, false}
-use Rattle.lists.specs.Choose.{if◌then◌else◌}
+use Rattle.std.specs.Prelude.{ℕ, ◌+◌, ◌*◌, Bool, false, if◌then◌else◌}
 use Rattle.refusal.specs.declared.Refusal.TheVariants.{FormUnavailable, UnderflowTooLarge}
 use Rattle.layout.specs.declared.EntryWidth.{EntryWidth}
 use Rattle.layout.specs.declared.EntryWidth.TheVariants as E

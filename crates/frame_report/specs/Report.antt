@@ -1,6 +1,5 @@
 -- The C interface: the form asked for, and what reading, writing and opening a frame answer, as plain numbers.
-use Rattle.std.specs.Prelude.{ℕ, eqb}
-use Rattle.lists.specs.Choose.{if◌then◌else◌}
+use Rattle.std.specs.Prelude.{ℕ, eqb, if◌then◌else◌}
 use Rattle.layout.specs.declared.Width.{Width}
 use Rattle.layout.specs.declared.WidthAnswer.{WidthAnswer}
 use Rattle.layout.specs.declared.WidthAnswer.TheVariants as WA

@@ -9,7 +9,7 @@ use lib.ListN.{length, take}
 use lib.Seq.{length-take-le}
 use lib.Dec.{leb, ltb, eqb}
 use borrow.Author.Tests.{leb-true, ltb-false, not-false}
-use Rattle.lists.specs.Choose.{if◌then◌else◌}
+use Rattle.std.specs.Prelude.{if◌then◌else◌}
 use Rattle.lists.proofs.Tests.{and-true-left, and-true-right}
 use Rattle.layout.specs.declared.Width.{Width}
 use Rattle.layout.specs.declared.EntryAnswer.{EntryAnswer}

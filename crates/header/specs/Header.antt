@@ -1,6 +1,5 @@
 -- Document 01, "The header" and "Numbers given back": what reading a header answers, for any bytes.
-use Rattle.std.specs.Prelude.{ℕ, List, Bool, true, false, length, take, ltb}
-use Rattle.lists.specs.Choose.{if◌then◌else◌}
+use Rattle.std.specs.Prelude.{ℕ, List, Bool, true, false, length, take, ltb, if◌then◌else◌}
 use Rattle.refusal.specs.declared.Refusal.TheVariants as R
 use Rattle.header_lines.specs.declared.LineId.TheVariants as I
 use Rattle.header_lines.specs.Lines.{on_line}

@@ -1,6 +1,5 @@
 -- Document 01: lines 0, 1 and 2, refusals 1 to 6.
-use Rattle.std.specs.Prelude.{ℕ, ◌*◌, ◌%◌, List, Bool, true, ◌&&◌, not, length, eqb, leb, ltb}
-use Rattle.lists.specs.Choose.{if◌then◌else◌}
+use Rattle.std.specs.Prelude.{ℕ, ◌*◌, ◌%◌, List, Bool, true, ◌&&◌, not, length, eqb, leb, ltb, if◌then◌else◌}
 use Rattle.refusal.specs.declared.Refusal.{Refusal}
 use Rattle.refusal.specs.declared.Refusal.TheVariants as R
 use Rattle.field.specs.Fields.{number_field, version_field}

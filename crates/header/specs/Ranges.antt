@@ -1,6 +1,5 @@
 -- Document 01: refusal 8, and the header's numbers where it is not due.
-use Rattle.std.specs.Prelude.{ℕ, Bool, not, ◌&&◌, eqb, leb}
-use Rattle.lists.specs.Choose.{if◌then◌else◌}
+use Rattle.std.specs.Prelude.{ℕ, Bool, not, ◌&&◌, eqb, leb, if◌then◌else◌}
 use Rattle.refusal.specs.declared.Refusal.TheVariants.{OutOfRange}
 use Rattle.layout.specs.declared.Width.{Width}
 use Rattle.layout.specs.declared.EntryWidth.{EntryWidth}

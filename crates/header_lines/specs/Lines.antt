@@ -1,6 +1,5 @@
 -- Document 01, "The header": lines of 80 characters, eight of name and 72 of data, found by position and guarded by name.
-use Rattle.std.specs.Prelude.{ℕ, ◌+◌, ◌*◌, List, [], ◌∷◌, Bool, true, false, ◌&&◌, length, take, drop, get_or, eqb, leb}
-use Rattle.lists.specs.Choose.{if◌then◌else◌}
+use Rattle.std.specs.Prelude.{ℕ, ◌+◌, ◌*◌, List, [], ◌∷◌, Bool, true, false, ◌&&◌, length, take, drop, get_or, eqb, leb, if◌then◌else◌}
 use Rattle.lists.specs.Text.{codes}
 use Rattle.header_lines.specs.declared.Line.{Line}
 use Rattle.header_lines.specs.declared.LineId.{LineId}

@@ -10,7 +10,7 @@ use lib.ListN.{length, take, drop, replicate, set, length-append, length-drop, l
 use lib.Seq.{drop-cons, drop-drop, set-append_seam, append_snoc, take_at, drop_at}
 use lib.Dec.{ltb}
 use borrow.Author.Tests.{lt-ltb, le-ltb}
-use Rattle.lists.specs.Choose.{if◌then◌else◌}
+use Rattle.std.specs.Prelude.{if◌then◌else◌}
 use Rattle.lists.specs.Text.{codes}
 use Rattle.lists.specs.Digits.{digits_up_to, decimal}
 use Rattle.layout.specs.declared.Underflow.{Underflow}

@@ -1,8 +1,7 @@
 // The two header lines that a frame's counts and widths stand in: written, and compared with what would be written.
 #![tactic(auto)]
 
-ghost use Rattle.std.specs.Prelude.{◌≡◌, ◌++◌, ◌≤◌, length, drop, leb};
-ghost use Rattle.lists.specs.Choose.{if◌then◌else◌};
+ghost use Rattle.std.specs.Prelude.{◌≡◌, ◌++◌, ◌≤◌, length, drop, leb, if◌then◌else◌};
 ghost use Rattle.lists.specs.Text.{codes};
 ghost use Rattle.lists.specs.Bytes.{same_bytes};
 ghost use Rattle.lists.specs.Digits.{digits_up_to, decimal};

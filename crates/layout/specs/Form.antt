@@ -1,6 +1,5 @@
 -- The form of a frame, in bytes.
-use Rattle.std.specs.Prelude.{ℕ, eqb}
-use Rattle.lists.specs.Choose.{if◌then◌else◌}
+use Rattle.std.specs.Prelude.{ℕ, eqb, if◌then◌else◌}
 use Rattle.layout.specs.declared.Width.{Width}
 use Rattle.layout.specs.declared.Width.TheVariants as W
 use Rattle.layout.specs.declared.EntryWidth.{EntryWidth}

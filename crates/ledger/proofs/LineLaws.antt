@@ -10,7 +10,7 @@ use lib.ListN.{length, take, drop, length-take, length-drop, length-append}
 use lib.Seq.{length-take-le, take_all, take-add, take-take, drop-drop, take_at, drop_at}
 use lib.Dec.{eqb, ltb}
 use borrow.Author.Tests.{eq-eqb, ne_eqb, lt-ltb}
-use Rattle.lists.specs.Choose.{if◌then◌else◌}
+use Rattle.std.specs.Prelude.{if◌then◌else◌}
 use Rattle.lists.specs.Bytes.{big, big_bytes}
 use Rattle.lists.proofs.BigEndian.{big-append, big-from, bytes-join, length-big_bytes}
 use Rattle.ledger.specs.declared.Kind.{Kind}

@@ -9,7 +9,7 @@ use native.Mathlib.Omega.{arith}
 use lib.ListN.{length, get_or}
 use lib.Dec.{eqb, ltb}
 use borrow.Author.Tests.{eq-eqb, lt-ltb, ltb-true, eqb-true}
-use Rattle.lists.specs.Choose.{if◌then◌else◌}
+use Rattle.std.specs.Prelude.{if◌then◌else◌}
 use Rattle.lists.specs.Bytes.{big_from, big, big_bytes}
 use Rattle.lists.proofs.BigEndian.{big-from, big-bytes, big-below, bytes-big, length-big_bytes}
 use Rattle.ledger.specs.declared.Kind.{Kind}

@@ -9,7 +9,7 @@ use lib.ListN.{length, drop, length-drop, length-reverse}
 use lib.Seq.{drop-nil}
 use lib.Dec.{eqb, ltb}
 use borrow.Author.Tests.{lt-ltb, le-ltb, ltb-true, ltb-false, ne_eqb}
-use Rattle.lists.specs.Choose.{if◌then◌else◌}
+use Rattle.std.specs.Prelude.{if◌then◌else◌}
 use Rattle.ledger.specs.declared.Line.{Line}
 use Rattle.ledger.specs.Standing.{withdraws, outnumbered, cancelled, standing, overdrawn}
 

@@ -1,6 +1,5 @@
 -- A survey from the last line to the first. No public contract cites this file.
-use Rattle.std.specs.Prelude.{ℕ, zero, suc, ◌+◌, ◌-◌, List, eqb, ltb}
-use Rattle.lists.specs.Choose.{if◌then◌else◌}
+use Rattle.std.specs.Prelude.{ℕ, zero, suc, ◌+◌, ◌-◌, List, eqb, ltb, if◌then◌else◌}
 use Rattle.ledger.specs.declared.Line.{Line}
 use Rattle.ledger.specs.declared.LineAnswer.{LineAnswer}
 use Rattle.ledger.specs.declared.LineAnswer.TheVariants.{WellFormed, Malformed}

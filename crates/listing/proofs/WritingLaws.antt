@@ -10,7 +10,7 @@ use lib.ListN.{length, take, drop, set, length-append, length-drop, take-append-
 use lib.Seq.{take-take, take_at, drop_at, length-take-le, set_split, append_snoc}
 use lib.Dec.{ltb}
 use borrow.Author.Tests.{lt-ltb, le-ltb}
-use Rattle.lists.specs.Choose.{if◌then◌else◌}
+use Rattle.std.specs.Prelude.{if◌then◌else◌}
 use Rattle.listing.specs.Writing.{Wrote}
 use Rattle.listing.specs.Listing.{digits}
 use Rattle.lists.specs.Digits.{digits_up_to, decimal}

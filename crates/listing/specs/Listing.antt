@@ -1,6 +1,5 @@
 -- Document 01, "Trials on both sides": the text that the listing program prints for a ledger.
-use Rattle.std.specs.Prelude.{ℕ, zero, suc, ◌+◌, ◌-◌, ◌*◌, ◌/◌, ◌%◌, Bool, true, false, not, ◌&&◌, List, [], ◌∷◌, ◌++◌, length, take, eqb, leb, ltb}
-use Rattle.lists.specs.Choose.{if◌then◌else◌}
+use Rattle.std.specs.Prelude.{ℕ, zero, suc, ◌+◌, ◌-◌, ◌*◌, ◌/◌, ◌%◌, Bool, true, false, not, ◌&&◌, List, [], ◌∷◌, ◌++◌, length, take, eqb, leb, ltb, if◌then◌else◌}
 use Rattle.lists.specs.Text.{codes}
 use Rattle.lists.specs.Digits.{digits_up_to, decimal}
 use Rattle.calendar.specs.declared.Date.{Date}

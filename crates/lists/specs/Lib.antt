@@ -1,4 +1,3 @@
-pub mod Choose
 pub mod Text
 pub mod Bytes
 pub mod Digits

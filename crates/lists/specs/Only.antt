@@ -1,6 +1,5 @@
 -- The elements of a list that pass a test.
-use Rattle.std.specs.Prelude.{ℕ, Bool, List, [], ◌∷◌}
-use Rattle.lists.specs.Choose.{if◌then◌else◌}
+use Rattle.std.specs.Prelude.{ℕ, Bool, List, [], ◌∷◌, if◌then◌else◌}
 
 -- in their order
 unfoldable pub only : (ℕ → Bool) → List ℕ → List ℕ

@@ -1,8 +1,7 @@
 -- Request A2 and source document 003: one of the 25 entries of a mar header record.
-use Rattle.std.specs.Prelude.{ℕ, ◌&&◌, List, leb, ltb}
+use Rattle.std.specs.Prelude.{ℕ, ◌&&◌, List, leb, ltb, if◌then◌else◌}
 use Rattle.std.specs.Float.{binary32}
 use Rattle.std.specs.Float.Ieee.{of_bits}
-use Rattle.lists.specs.Choose.{if◌then◌else◌}
 use Rattle.refusal.specs.declared.Refusal.TheVariants as R
 use Rattle.byte_order.specs.declared.ByteOrder.{ByteOrder}
 use Rattle.mar_header.specs.declared.MarHeaderAnswer.{MarHeaderAnswer}

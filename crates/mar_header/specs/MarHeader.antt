@@ -1,6 +1,5 @@
 -- Request A2 and source document 003: the header record of a mar image plate, refusals 28, 1 and 29.
-use Rattle.std.specs.Prelude.{ℕ, ◌-◌, Bool, ◌&&◌, List, length, eqb, ltb}
-use Rattle.lists.specs.Choose.{if◌then◌else◌}
+use Rattle.std.specs.Prelude.{ℕ, ◌-◌, Bool, ◌&&◌, List, length, eqb, ltb, if◌then◌else◌}
 use Rattle.refusal.specs.declared.Refusal.TheVariants as R
 use Rattle.byte_order.specs.declared.ByteOrder.{ByteOrder}
 use Rattle.byte_order.specs.declared.ByteOrder.TheVariants as O

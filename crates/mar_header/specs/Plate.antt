@@ -1,6 +1,5 @@
 -- Request A2 and source document 003: the sizes of a mar image plate.
-use Rattle.std.specs.Prelude.{ℕ, ◌+◌, ◌-◌, ◌*◌, ◌/◌, eqb}
-use Rattle.lists.specs.Choose.{if◌then◌else◌}
+use Rattle.std.specs.Prelude.{ℕ, ◌+◌, ◌-◌, ◌*◌, ◌/◌, eqb, if◌then◌else◌}
 use Rattle.mar_header.specs.declared.Side.{Side}
 use Rattle.mar_header.specs.declared.Side.TheVariants as S
 use Rattle.mar_header.specs.declared.SideAnswer.{SideAnswer}

@@ -1,6 +1,5 @@
 -- Request A2: what reading a mar image plate answers and leaves in the pixel array, for any bytes.
-use Rattle.std.specs.Prelude.{ℕ, ◌+◌, ◌*◌, List, [], ◌++◌, length, drop, ltb}
-use Rattle.lists.specs.Choose.{if◌then◌else◌}
+use Rattle.std.specs.Prelude.{ℕ, ◌+◌, ◌*◌, List, [], ◌++◌, length, drop, ltb, if◌then◌else◌}
 use Rattle.refusal.specs.declared.Refusal.TheVariants as R
 use Rattle.layout.specs.declared.Width.TheVariants as W
 use Rattle.marks.specs.declared.Entry.{Entry}

@@ -1,6 +1,5 @@
 -- Request A2: the high-intensity pairs of a mar image plate, as entries for marked pixels.
-use Rattle.std.specs.Prelude.{ℕ, zero, suc, ◌-◌, ◌&&◌, List, [], ◌∷◌, drop, ltb}
-use Rattle.lists.specs.Choose.{if◌then◌else◌}
+use Rattle.std.specs.Prelude.{ℕ, zero, suc, ◌-◌, ◌&&◌, List, [], ◌∷◌, drop, ltb, if◌then◌else◌}
 use Rattle.marks.specs.declared.Entry.{Entry}
 use Rattle.marks.specs.declared.Entry.TheVariants as E
 use Rattle.byte_order.specs.declared.ByteOrder.{ByteOrder}

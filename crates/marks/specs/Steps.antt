@@ -1,6 +1,5 @@
 -- What the pixel array holds while the entries are taken: a marked pixel waits by the number `hold` until its entry comes.
-use Rattle.std.specs.Prelude.{ℕ, suc, Bool, false, ◌&&◌, List, [], ◌∷◌, length, get_or, set, eqb, ltb}
-use Rattle.lists.specs.Choose.{if◌then◌else◌}
+use Rattle.std.specs.Prelude.{ℕ, suc, Bool, false, ◌&&◌, List, [], ◌∷◌, length, get_or, set, eqb, ltb, if◌then◌else◌}
 use Rattle.refusal.specs.declared.Refusal.TheVariants as R
 use Rattle.marks.specs.declared.Entry.{Entry}
 use Rattle.marks.specs.declared.Entry.TheVariants as E

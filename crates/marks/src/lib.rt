@@ -1,8 +1,7 @@
 // Entries for the marked pixels of an image.
 #![tactic(auto)]
 
-ghost use Rattle.std.specs.Prelude.{◌≡◌};
-ghost use Rattle.lists.specs.Choose.{if◌then◌else◌};
+ghost use Rattle.std.specs.Prelude.{◌≡◌, if◌then◌else◌};
 ghost use Rattle.marks.specs.Steps.{takes, put};
 
 use refusal::Refusal;

@@ -9,7 +9,7 @@ use lib.ListN.{length, get_or, set, length-append, length-set}
 use lib.Seq.{get_or-set_same, set-set, set-get_or}
 use lib.Dec.{eqb, leb, ltb}
 use borrow.Author.Tests.{eq-eqb, ne_eqb, leb-false, lt-leb, le-ltb, ltb-false, not-false}
-use Rattle.lists.specs.Choose.{if◌then◌else◌}
+use Rattle.std.specs.Prelude.{if◌then◌else◌}
 use Rattle.refusal.specs.declared.Refusal.{Refusal}
 use Rattle.refusal.specs.declared.Refusal.TheVariants as R
 use Rattle.writer.specs.declared.AskedForm.TheVariants as F

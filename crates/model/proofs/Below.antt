@@ -9,7 +9,7 @@ use lib.ListN.{get_or, drop}
 use lib.Seq.{get_or-drop}
 use lib.Dec.{eqb, ltb}
 use borrow.Author.Tests.{ltb-false, eq-eqb}
-use Rattle.lists.specs.Choose.{if◌then◌else◌}
+use Rattle.std.specs.Prelude.{if◌then◌else◌}
 use Rattle.lists.specs.Bytes.{little}
 use Rattle.lists.proofs.Below.{little-below}
 use Rattle.layout.specs.declared.Width.{Width}

@@ -1,6 +1,5 @@
 -- Document 01, "The header": numbers, versions and decimal numbers as they are written.
-use Rattle.std.specs.Prelude.{ℕ, ◌+◌, List, [], ◌∷◌, Bool, true, ◌&&◌, length, take, drop, get_or, eqb, leb}
-use Rattle.lists.specs.Choose.{if◌then◌else◌}
+use Rattle.std.specs.Prelude.{ℕ, ◌+◌, List, [], ◌∷◌, Bool, true, ◌&&◌, length, take, drop, get_or, eqb, leb, if◌then◌else◌}
 use Rattle.lists.specs.Digits.{all_digits, value_from}
 use Rattle.numeral.specs.declared.Class.TheVariants.{Digit, Plus}
 use Rattle.numeral.specs.declared.Number.{Number}

@@ -1,6 +1,5 @@
 -- Runs of characters of one class.
-use Rattle.std.specs.Prelude.{ℕ, suc, ◌+◌, List, [], ◌∷◌, Bool, not, drop, eqb}
-use Rattle.lists.specs.Choose.{if◌then◌else◌}
+use Rattle.std.specs.Prelude.{ℕ, suc, ◌+◌, List, [], ◌∷◌, Bool, not, drop, eqb, if◌then◌else◌}
 use Rattle.lists.specs.Digits.{is_digit}
 use Rattle.numeral.specs.declared.Class.{Class}
 use Rattle.numeral.specs.declared.Class.TheVariants.{Space, Other, Digit, Plus}

@@ -8,7 +8,7 @@ use native.Mathlib.Omega.{arith}
 use lib.ListN.{get_or, set}
 use lib.Dec.{eqb}
 use borrow.Author.Tests.{eqb-true}
-use Rattle.lists.specs.Choose.{if◌then◌else◌}
+use Rattle.std.specs.Prelude.{if◌then◌else◌}
 use Rattle.readback.specs.Held.{held_count, held_pixels, is_held}
 use Rattle.archive.specs.Calls.{Outcome, correct_outcome}
 use Rattle.archive.proofs.Outcomes.{Corrected, correct-view}

@@ -1,7 +1,6 @@
 -- Document 02, A7: what the order of corrections decides. proofs/Order.antt, Back.antt and Calls.antt prove these statements, for every held buffer, ledger and number of lines.
 -- Compared runs start from one state and every call of them is made on what the last one left; the ledgers after them are not compared.
-use Rattle.std.specs.Prelude.{ℕ, ◌<◌, ◌≡◌, List, [], ◌∷◌, ◌++◌, length, get_or, eqb}
-use Rattle.lists.specs.Choose.{if◌then◌else◌}
+use Rattle.std.specs.Prelude.{ℕ, ◌<◌, ◌≡◌, List, [], ◌∷◌, ◌++◌, length, get_or, eqb, if◌then◌else◌}
 use Rattle.readback.specs.Held.{held_count, held_pixels}
 use Rattle.model.specs.Model.{Call, correct, withdraw, run}
 use Rattle.model.specs.Run.{State, step, AllCounted}

@@ -10,7 +10,7 @@ use lib.ListN.{length, get_or, take, drop, get_or-append}
 use lib.Seq.{take-take}
 use lib.Dec.{ltb}
 use borrow.Author.Tests.{lt-ltb, le-ltb, ltb-true, ltb-false}
-use Rattle.lists.specs.Choose.{if◌then◌else◌}
+use Rattle.std.specs.Prelude.{if◌then◌else◌}
 use Rattle.lists.proofs.Tests.{and-true-left, and-true-right}
 use Rattle.lists.specs.Text.{codes}
 use Rattle.lists.proofs.Parts.{drop-take}

@@ -11,7 +11,7 @@ use lib.ListN.{length, get_or, take, drop, length-take, length-drop, drop_of_len
 use lib.Seq.{drop-cons, drop-drop, take-take}
 use lib.Dec.{eqb, leb, ltb}
 use borrow.Author.Tests.{eq-eqb, ne_eqb, le-leb, lt-leb, lt-ltb, leb-true}
-use Rattle.lists.specs.Choose.{if◌then◌else◌}
+use Rattle.std.specs.Prelude.{if◌then◌else◌}
 use Rattle.lists.specs.Digits.{is_digit, all_digits, value_from}
 use Rattle.lists.proofs.Tests.{and-false, and-true-left, and-true-right}
 use Rattle.lists.proofs.Parts.{drop-take}

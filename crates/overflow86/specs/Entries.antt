@@ -1,6 +1,5 @@
 -- Document 01, "Expanding pixels", FORMAT 86: the characters of the table.
-use Rattle.std.specs.Prelude.{ℕ, zero, suc, ◌&&◌, List, [], ◌∷◌, length, take, drop, eqb, ltb}
-use Rattle.lists.specs.Choose.{if◌then◌else◌}
+use Rattle.std.specs.Prelude.{ℕ, zero, suc, ◌&&◌, List, [], ◌∷◌, length, take, drop, eqb, ltb, if◌then◌else◌}
 use Rattle.lists.specs.Digits.{all_digits, value_from}
 use Rattle.overflow86.specs.declared.Number.{Number}
 use Rattle.overflow86.specs.declared.Number.TheVariants as N

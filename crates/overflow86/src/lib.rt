@@ -1,8 +1,7 @@
 // FORMAT 86: the pixels of a frame whose large intensities stand in a table of text.
 #![tactic(auto)]
 
-ghost use Rattle.std.specs.Prelude.{◌≡◌, map, ◌+◌, ◌*◌, ◌≤◌, ◌<◌, ltb, length, drop};
-ghost use Rattle.lists.specs.Choose.{if◌then◌else◌};
+ghost use Rattle.std.specs.Prelude.{◌≡◌, map, ◌+◌, ◌*◌, ◌≤◌, ◌<◌, ltb, length, drop, if◌then◌else◌};
 ghost use Rattle.layout.specs.Form.{width_bytes};
 ghost use Rattle.table.specs.Table.{entries};
 ghost use Rattle.overflow86.specs.Entries.{after_spaces, digits_number, text_number, entry_of, text_entries};

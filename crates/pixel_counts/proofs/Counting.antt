@@ -1,7 +1,7 @@
 -- Counts of blocks that follow each other, and the loop over them.
 -- Assumes nothing.
 use Rattle.std.proofs.Common.{◌≡◌, ℕ, ◌+◌, ◌-◌, ◌%◌, ◌^◌, ◌<◌, ◌≤◌, Bool, true, false, eqb, leb, List, ◌++◌, length, get_or, take, drop, sym, refl, ap, ◌∙◌, arith, length-append, length-drop, length-take, length-take-le, take_all, eqb-true}
-use Rattle.lists.specs.Choose.{if◌then◌else◌}
+use Rattle.std.specs.Prelude.{if◌then◌else◌}
 use Rattle.lists.specs.Only.{only}
 use Rattle.lists.proofs.Only.{only-append, only-le, only-more, choice-length, take_split}
 use Rattle.layout.specs.declared.Width.{Width}

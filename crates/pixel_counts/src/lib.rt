@@ -1,8 +1,7 @@
 // Pixels counted for their entries.
 #![tactic(auto)]
 
-ghost use Rattle.std.specs.Prelude.{◌≡◌, ◌+◌, ◌^◌, ◌<◌, ◌≤◌, ◌&&◌, ◌||◌, leb, length, nat_le, nat_lt};
-ghost use Rattle.lists.specs.Choose.{if◌then◌else◌};
+ghost use Rattle.std.specs.Prelude.{◌≡◌, ◌+◌, ◌^◌, ◌<◌, ◌≤◌, ◌&&◌, ◌||◌, leb, length, nat_le, nat_lt, if◌then◌else◌};
 ghost use Rattle.lists.specs.Only.{only};
 ghost use Rattle.pixel_counts.specs.Counts.{is_underflow, any_above255, counts_of, under_count, two_count, four_count, counts_for, no_counts, counted, counts_more, passing, passing_from};
 

@@ -10,7 +10,7 @@ use borrow.Author.Tests.{le-leb, ne_eqb, leb-true, ltb-true}
 use lib.Dec.{eqb, leb, ltb}
 use lib.ListN.{length, drop, length-append, length-replicate}
 use lib.Seq.{drop-drop, drop_at, drop-append_seam, take-append_seam}
-use Rattle.lists.specs.Choose.{if◌then◌else◌}
+use Rattle.std.specs.Prelude.{if◌then◌else◌}
 use Rattle.lists.specs.Digits.{is_digit, all_digits, value_from, digits_up_to, decimal}
 use Rattle.lists.proofs.Tests.{and-false, and-true-left, and-true-right}
 use Rattle.numeral.specs.declared.Class.TheVariants.{Space, Other}

@@ -8,7 +8,7 @@ use native.Mathlib.Omega.{arith}
 use native.Mathlib.Nat.{mul-le-mul_left}
 use lib.ListN.{length}
 use lib.Dec.{ltb}
-use Rattle.lists.specs.Choose.{if◌then◌else◌}
+use Rattle.std.specs.Prelude.{if◌then◌else◌}
 use Rattle.lists.specs.Bytes.{padded_to}
 use Rattle.layout.specs.declared.Underflow.{Underflow}
 use Rattle.layout.specs.Layout.{table_bytes}

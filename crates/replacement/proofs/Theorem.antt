@@ -11,7 +11,7 @@ use lib.ListN.{length, take, drop, set, get_or, length-append, length-take, leng
 use lib.Seq.{length-take-le, take-append-le, drop-append-le}
 use lib.Dec.{ltb, leb}
 use borrow.Author.Tests.{ltb-true, ltb-false, le-leb}
-use Rattle.lists.specs.Choose.{if◌then◌else◌}
+use Rattle.std.specs.Prelude.{if◌then◌else◌}
 use Rattle.lists.specs.Bytes.{little_bytes, zeros, held_bytes, over, padded_to}
 use Rattle.layout.specs.declared.Form.{Form}
 use Rattle.layout.specs.Form.{width_bytes, underflow_bytes}

@@ -1,6 +1,5 @@
 -- What the private functions answer from a pixel's place. No public contract cites this file.
-use Rattle.std.specs.Prelude.{ℕ, Bool, not, List, ltb, length}
-use Rattle.lists.specs.Choose.{if◌then◌else◌}
+use Rattle.std.specs.Prelude.{ℕ, Bool, not, List, ltb, length, if◌then◌else◌}
 use Rattle.refusal.specs.declared.Refusal.TheVariants as R
 use Rattle.writer.specs.Writer.{underflow_too_large}
 use Rattle.canonical.specs.declared.Place.{Place}

@@ -1,6 +1,5 @@
 -- One pixel of a held frame replaced: what is answered, and the buffer afterwards.
-use Rattle.std.specs.Prelude.{ℕ, Bool, true, not, List, eqb, leb, ltb, length, get_or, set}
-use Rattle.lists.specs.Choose.{if◌then◌else◌}
+use Rattle.std.specs.Prelude.{ℕ, Bool, true, not, List, eqb, leb, ltb, length, get_or, set, if◌then◌else◌}
 use Rattle.refusal.specs.declared.Refusal.TheVariants as R
 use Rattle.writer.specs.Writer.{Made, frame, refused, writer_frame, output_of}
 use Rattle.readback.specs.Held.{held_count, held_form, held_pixels, is_held}

@@ -1,6 +1,5 @@
 -- One pixel of a held frame replaced: what the edits of its bytes leave in the buffer. No public contract cites this file.
-use Rattle.std.specs.Prelude.{ℕ, ◌+◌, ◌-◌, ◌*◌, ◌≤◌, ◌<◌, true, false, List, [], ◌∷◌, ltb, length, take, get_or, ◌≡◌}
-use Rattle.lists.specs.Choose.{if◌then◌else◌}
+use Rattle.std.specs.Prelude.{ℕ, ◌+◌, ◌-◌, ◌*◌, ◌≤◌, ◌<◌, true, false, List, [], ◌∷◌, ltb, length, take, get_or, ◌≡◌, if◌then◌else◌}
 use Rattle.lists.specs.Bytes.{little_bytes, padded_to, held_bytes, over}
 use Rattle.layout.specs.declared.Form.{Form}
 use Rattle.layout.specs.Form.{width_bytes, underflow_bytes}

@@ -1,8 +1,7 @@
 // One pixel of a held frame replaced in place.
 #![tactic(auto)]
 
-ghost use Rattle.std.specs.Prelude.{◌≡◌, [], ◌∷◌, false, not, ◌+◌, ◌-◌, ◌*◌, ◌^◌, ◌≤◌, ◌<◌, length, leb, ltb};
-ghost use Rattle.lists.specs.Choose.{if◌then◌else◌};
+ghost use Rattle.std.specs.Prelude.{◌≡◌, [], ◌∷◌, false, not, ◌+◌, ◌-◌, ◌*◌, ◌^◌, ◌≤◌, ◌<◌, length, leb, ltb, if◌then◌else◌};
 ghost use Rattle.lists.specs.Bytes.{padded_to};
 ghost use Rattle.layout.specs.Form.{width_bytes};
 ghost use Rattle.writer.specs.Storing.{lowered, stored_value, under_entries, two_entries, four_entries};

@@ -11,7 +11,7 @@ use borrow.Author.Tests.{ltb-true, ltb-false}
 use lib.Dec.{ltb}
 use lib.ListN.{length, drop, get_or, set, length-map, length-set}
 use lib.Seq.{get_or-drop, set_at, drop-cons}
-use Rattle.lists.specs.Choose.{if◌then◌else◌}
+use Rattle.std.specs.Prelude.{if◌then◌else◌}
 use Rattle.model.specs.Model as M
 use Rattle.model.specs.Model.{Call, run}
 use Rattle.model.specs.Run.{State, state_of, step}

@@ -1,6 +1,5 @@
 -- A list of calls in numbers, made on real bytes: the run that the theorem of demand 3 is about.
-use Rattle.std.specs.Prelude.{ℕ, zero, suc, ◌/◌, List, [], ◌∷◌, map, drop, get_or, eqb, ltb}
-use Rattle.lists.specs.Choose.{if◌then◌else◌}
+use Rattle.std.specs.Prelude.{ℕ, zero, suc, ◌/◌, List, [], ◌∷◌, map, drop, get_or, eqb, ltb, if◌then◌else◌}
 use Rattle.refusal.specs.Codes.{refusal_number}
 use Rattle.calendar.specs.declared.Date.{Date}
 use Rattle.ledger.specs.declared.LedgerAnswer.{LedgerAnswer}

@@ -1,6 +1,5 @@
 -- Document 02, A14: of the nine frames that the writer makes or refuses, the form of the first of the shortest.
-use Rattle.std.specs.Prelude.{ℕ, List, length, ltb}
-use Rattle.lists.specs.Choose.{if◌then◌else◌}
+use Rattle.std.specs.Prelude.{ℕ, List, length, ltb, if◌then◌else◌}
 use Rattle.refusal.specs.declared.Refusal.TheVariants.{OutputShort}
 use Rattle.layout.specs.declared.Width.TheVariants as W
 use Rattle.layout.specs.declared.Underflow.TheVariants as U

@@ -1,6 +1,5 @@
 -- Bytes moved within a buffer, and one entry of a padded table put in, taken out or replaced there.
-use Rattle.std.specs.Prelude.{ℕ, ◌+◌, ◌-◌, Bool, ◌&&◌, List, ◌++◌, ltb, leb, length, take, drop}
-use Rattle.lists.specs.Choose.{if◌then◌else◌}
+use Rattle.std.specs.Prelude.{ℕ, ◌+◌, ◌-◌, Bool, ◌&&◌, List, ◌++◌, ltb, leb, length, take, drop, if◌then◌else◌}
 use Rattle.lists.specs.Bytes.{zeros, padded_to, over}
 
 -- b with its n bytes from index `from` copied to index `to`

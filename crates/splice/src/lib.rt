@@ -1,8 +1,7 @@
 // Moves within a byte buffer.
 #![tactic(auto)]
 
-ghost use Rattle.std.specs.Prelude.{◌≡◌, ◌+◌, ◌-◌, ◌%◌, ◌≤◌, ◌<◌, length};
-ghost use Rattle.lists.specs.Choose.{if◌then◌else◌};
+ghost use Rattle.std.specs.Prelude.{◌≡◌, ◌+◌, ◌-◌, ◌%◌, ◌≤◌, ◌<◌, length, if◌then◌else◌};
 ghost use Rattle.lists.specs.Bytes.{little_bytes, zeros, padded_to, over};
 ghost use Rattle.splice.specs.Moves.{moved, copied, opened, closed, without_front, grown, shrunk, resized, table_edited, edit_fits, put_fits};
 

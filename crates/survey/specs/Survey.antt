@@ -1,6 +1,5 @@
 -- What one pass over the pixels counts for all nine forms (document 02, A14).
-use Rattle.std.specs.Prelude.{ℕ, ◌+◌, Bool, false, ◌||◌, List, length, ltb}
-use Rattle.lists.specs.Choose.{if◌then◌else◌}
+use Rattle.std.specs.Prelude.{ℕ, ◌+◌, Bool, false, ◌||◌, List, length, ltb, if◌then◌else◌}
 use Rattle.lists.specs.Only.{only}
 use Rattle.layout.specs.declared.Width.TheVariants as W
 use Rattle.layout.specs.declared.EntryWidth.TheVariants as E

@@ -1,8 +1,7 @@
 // One pass over the pixels that counts what all nine forms need.
 #![tactic(auto)]
 
-ghost use Rattle.std.specs.Prelude.{◌≡◌, ◌^◌, ◌<◌, ◌≤◌, length, ltb};
-ghost use Rattle.lists.specs.Choose.{if◌then◌else◌};
+ghost use Rattle.std.specs.Prelude.{◌≡◌, ◌^◌, ◌<◌, ◌≤◌, length, ltb, if◌then◌else◌};
 ghost use Rattle.layout.specs.Form.{form_of};
 ghost use Rattle.layout.specs.declared.Width.TheVariants.{One};
 ghost use Rattle.layout.specs.declared.Underflow.TheVariants.{None};

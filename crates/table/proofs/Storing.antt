@@ -3,7 +3,7 @@
 use Rattle.std.proofs.Common.{◌≡◌, ℕ, zero, suc, ◌+◌, ◌-◌, ◌*◌, ◌/◌, ◌%◌, ◌<◌, ◌≤◌, leb, List, [], ◌∷◌, ◌++◌, map, length, get_or, take, drop, set, sym, refl, ap, ◌∙◌, append_assoc, append-nil, mul-le-mul_right, suc-mul, add-mul, zero-mul, add-one, arith, length-append, length-drop, length-set, take-append-drop, drop_of_length-le, length-take, length-take-le, take-suc, drop-drop, take-suc-set, take_at, drop-set-lt, drop_at, le-leb}
 use lib.Seq.{append_snoc, take-length}
 use borrow.Rule.Slice.PartMut.{put_mid, Post-is}
-use Rattle.lists.specs.Choose.{if◌then◌else◌}
+use Rattle.std.specs.Prelude.{if◌then◌else◌}
 use Rattle.lists.specs.Bytes.{little_bytes, over}
 use Rattle.lists.specs.Parts.{with_part}
 use Rattle.lists.proofs.Numbers.{mul-split}

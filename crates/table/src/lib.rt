@@ -1,8 +1,7 @@
 // Reading and writing tables, once over the width of an entry.
 #![tactic(auto)]
 
-ghost use Rattle.std.specs.Prelude.{◌≡◌, ◌+◌, ◌*◌, ◌/◌, ◌≤◌, [], ◌∷◌, ◌++◌, map, length, take, drop, replicate, nat_le, slice_index};
-ghost use Rattle.lists.specs.Choose.{if◌then◌else◌};
+ghost use Rattle.std.specs.Prelude.{◌≡◌, ◌+◌, ◌*◌, ◌/◌, ◌≤◌, [], ◌∷◌, ◌++◌, map, length, take, drop, replicate, nat_le, slice_index, if◌then◌else◌};
 ghost use Rattle.lists.specs.Bytes.{little, little_bytes, zeros, over};
 ghost use Rattle.lists.specs.Parts.{with_part};
 ghost use Rattle.layout.specs.Form.{width_bytes};

@@ -11,7 +11,7 @@ use lib.Dec.{eqb, leb, ltb}
 use lib.Seq.{take_all, length-take-le}
 use borrow.Author.Tests.{le-ltb, ltb-false, leb-true, eqb-true}
 use Rattle.lists.proofs.Tests.{and-true-left, and-true-right}
-use Rattle.lists.specs.Choose.{if◌then◌else◌}
+use Rattle.std.specs.Prelude.{if◌then◌else◌}
 use Rattle.table.specs.Table.{entries, whole_entries}
 use Rattle.table.proofs.Laws.{length-entries, take-entries, entries-part, entries-bytes}
 use Rattle.expand.specs.Steps.{count}

@@ -1,8 +1,7 @@
 // How many entries of a table are 0, are a mark, and lie outside a range.
 #![tactic(auto)]
 
-ghost use Rattle.std.specs.Prelude.{◌≡◌, ◌&&◌, ◌+◌, ◌*◌, ◌/◌, ◌^◌, ◌<◌, ◌≤◌, length, eqb, leb};
-ghost use Rattle.lists.specs.Choose.{if◌then◌else◌};
+ghost use Rattle.std.specs.Prelude.{◌≡◌, ◌&&◌, ◌+◌, ◌*◌, ◌/◌, ◌^◌, ◌<◌, ◌≤◌, length, eqb, leb, if◌then◌else◌};
 ghost use Rattle.layout.specs.Form.{width_bytes};
 ghost use Rattle.table.specs.Table.{entries, whole_entries};
 ghost use Rattle.expand.specs.Steps.{count};

@@ -1,6 +1,5 @@
 -- Request A11: the ledger's line that decides a purge question, and the one that set a pixel.
-use Rattle.std.specs.Prelude.{ℕ, ◌+◌, Bool, not, List}
-use Rattle.lists.specs.Choose.{if◌then◌else◌}
+use Rattle.std.specs.Prelude.{ℕ, ◌+◌, Bool, not, List, if◌then◌else◌}
 use Rattle.refusal.specs.declared.Refusal.TheVariants as R
 use Rattle.calendar.specs.declared.Date.{Date}
 use Rattle.calendar.specs.Calendar.{is_date, before}

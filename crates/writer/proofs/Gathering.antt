@@ -2,7 +2,7 @@
 -- Assumes nothing.
 use Rattle.std.proofs.Common.{◌≡◌, ℕ, ◌+◌, ◌<◌, ◌≤◌, Bool, true, false, List, [], ◌∷◌, ◌++◌, map, length, get_or, take, set, refl, ap, append-nil, add-zero, add-one, arith, length-set, take_all, take-suc-set}
 use lib.Seq.{take-set-le}
-use Rattle.lists.specs.Choose.{if◌then◌else◌}
+use Rattle.std.specs.Prelude.{if◌then◌else◌}
 use Rattle.lists.specs.Only.{only}
 use Rattle.lists.proofs.Only.{only-more, Counting, counting-start, counting_more, counting-done}
 use Rattle.layout.specs.declared.Width.TheVariants as W

@@ -3,7 +3,7 @@
 use Rattle.std.proofs.Common.{◌≡◌, ℕ, ◌+◌, ◌-◌, ◌*◌, ◌≤◌, leb, List, [], ◌∷◌, ◌++◌, map, length, take, drop, sym, refl, ap, ◌∙◌, append-nil, arith, length-drop, drop_of_length-le, length-take, drop-drop, le-leb}
 use lib.ListN.{length-map}
 use borrow.Rule.Slice.PartMut.{put_mid}
-use Rattle.lists.specs.Choose.{if◌then◌else◌}
+use Rattle.std.specs.Prelude.{if◌then◌else◌}
 use Rattle.lists.proofs.Over.{over_none}
 use Rattle.table.specs.Writing.{table_of, less_wrapped}
 use Rattle.table.proofs.Storing.{length-table}

@@ -3,7 +3,7 @@
 use Rattle.std.proofs.Common.{◌≡◌, ℕ, ◌+◌, ◌-◌, ◌*◌, ◌%◌, ◌<◌, ◌≤◌, Bool, true, false, ◌||◌, ltb, List, [], ◌∷◌, map, length, get_or, take, drop, sym, refl, ap, ◌∙◌, add-zero, zero-mul, arith, length-take, take_all, drop-cons, take-take, drop-drop, ltb-false, ltb-true, le-ltb, lt-ltb}
 use lib.ListN.{length-map}
 use borrow.Author.Tests.{lt-leb}
-use Rattle.lists.specs.Choose.{if◌then◌else◌}
+use Rattle.std.specs.Prelude.{if◌then◌else◌}
 use Rattle.lists.specs.Bytes.{over}
 use Rattle.lists.proofs.Parts.{drop-take}
 use Rattle.layout.specs.declared.Width.{Width}

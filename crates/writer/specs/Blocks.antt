@@ -1,6 +1,5 @@
 -- What the private functions say of themselves: pixels lowered and capped, and bytes put over a buffer. No public contract cites this file.
-use Rattle.std.specs.Prelude.{◌≡◌, ℕ, ◌+◌, ◌-◌, ◌*◌, ◌≤◌, Bool, true, false, ◌||◌, List, [], map, length, take, drop, nat_le, nat_lt}
-use Rattle.lists.specs.Choose.{if◌then◌else◌}
+use Rattle.std.specs.Prelude.{◌≡◌, ℕ, ◌+◌, ◌-◌, ◌*◌, ◌≤◌, Bool, true, false, ◌||◌, List, [], map, length, take, drop, nat_le, nat_lt, if◌then◌else◌}
 use Rattle.lists.specs.Bytes.{over}
 use Rattle.layout.specs.declared.Width.{Width}
 use Rattle.layout.specs.declared.Width.TheVariants as W

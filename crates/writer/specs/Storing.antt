@@ -1,6 +1,5 @@
 -- Document 01, "Writing and holding": pixels to stored values and table entries.
-use Rattle.std.specs.Prelude.{ℕ, ◌-◌, leb, List, [], map, nat_le}
-use Rattle.lists.specs.Choose.{if◌then◌else◌}
+use Rattle.std.specs.Prelude.{ℕ, ◌-◌, leb, List, [], map, nat_le, if◌then◌else◌}
 use Rattle.lists.specs.Only.{only}
 use Rattle.layout.specs.declared.Width.{Width}
 use Rattle.layout.specs.declared.Width.TheVariants as W

@@ -1,8 +1,7 @@
 // Writing a frame of FORMAT 100.
 #![tactic(auto)]
 
-ghost use Rattle.std.specs.Prelude.{◌≡◌, ◌+◌, ◌-◌, ◌*◌, ◌^◌, ◌<◌, ◌≤◌, true, false, [], ◌∷◌, ◌++◌, map, length, take, drop, nat_le};
-ghost use Rattle.lists.specs.Choose.{if◌then◌else◌};
+ghost use Rattle.std.specs.Prelude.{◌≡◌, ◌+◌, ◌-◌, ◌*◌, ◌^◌, ◌<◌, ◌≤◌, true, false, [], ◌∷◌, ◌++◌, map, length, take, drop, nat_le, if◌then◌else◌};
 ghost use Rattle.lists.specs.Bytes.{zeros, held_bytes, over};
 ghost use Rattle.layout.specs.Layout.{table_bytes};
 ghost use Rattle.layout.specs.Form.{width_bytes, entry_bytes, underflow_bytes};
