@@ -14,10 +14,10 @@ run() {
 }
 
 "$example" .
-run write --header header.bin --pixels counts.raw --form 2+1 -o example.sfrm
+run write --header header.bin --pixels counts.raw --form 1+1 -o example.sfrm
 run info example.sfrm
 run view example.sfrm -o look.png --log
-run open example.sfrm -o ex
+run open example.sfrm --form 1+2 --room 4096 -o ex
 run correct ex 100,250 90
 run keep ex 2031-11-02
 run may-purge ex 2031-11-02

@@ -3,8 +3,8 @@
 set -u
 frames=$1 archive=$2
 
-# Every frame opened in its smallest form, and kept for five years; given again after a crash, both go on where they stopped.
-quayrudder open --below "$frames" -o "$archive"
+# Every frame opened, and kept for five years; given again after a crash, both go on where they stopped.
+quayrudder open --below "$frames" --form 1+2 -o "$archive"
 quayrudder keep --below "$archive" 2031-11-02
 
 # A table from the laboratory.

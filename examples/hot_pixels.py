@@ -25,7 +25,7 @@ for row, column in hot:
     print(f"hot: row {row}, column {column}: {pixels[row, column]}, its neighbours' median is {around[row, column]:.0f}")
 
 # %% Corrected in a holding: a change goes through lock, record and sums, or is raised as an Error
-holding = quayrudder.Holding.open(name, "hot_pixels")
+holding = quayrudder.Holding.open(name, "hot_pixels", form="1+2")
 for row, column in hot:
     line = holding.correct((row, column), int(around[row, column]))
     print(f"line {line.number}: pixel {line.pixel} corrected from {line.old} to {line.new}")

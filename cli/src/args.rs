@@ -1,12 +1,11 @@
 //! The command line.
 use crate::formats::{self, Format};
-use crate::forms::{AskedForm, FormParser};
 use crate::given::{Dated, Names};
 use crate::options::{ExpandOptions, InfoOptions, ViewOptions};
 use crate::shard::{self, Shard};
 use clap::{Arg, ArgGroup, Args, Parser, Subcommand};
 use clap_complete::Shell;
-use quayrudder::Date;
+use quayrudder::{Date, Form};
 use std::path::PathBuf;
 
 const STATUS: &str = "\
@@ -33,7 +32,7 @@ pub struct Cli {
 
 #[derive(Subcommand)]
 pub enum Command {
-    /// Say what frames, mar images and d*TREK images are: format, size, form, counts, end and smallest form, or why they are refused
+    /// Say what frames, mar images and d*TREK images are: format, size, form, counts and end, or why they are refused
     #[command(
         mut_arg("names", images),
         after_help = "Examples:\n  quayrudder info lysozyme_01_0001.sfrm\n  \
@@ -59,16 +58,14 @@ pub enum Command {
     View(View),
     /// Write a frame of FORMAT 100 from a header, counts and a form
     #[command(
-        after_help = "Examples:\n  quayrudder write --header old.sfrm --pixels counts.npy --form smallest -o new.sfrm\n  \
-                            quayrudder write --header old.sfrm --pixels counts.npy --form 1+1 -o new.sfrm"
+        after_help = "Example:\n  quayrudder write --header old.sfrm --pixels counts.npy --form 1+1 -o new.sfrm"
     )]
     Write(Write),
     /// Open frames: make NAME.held and an empty NAME.ledger of each
     #[command(
         mut_arg("names", frames),
-        after_help = "Examples:\n  quayrudder open lysozyme_01_0001.sfrm -o lyso1\n  \
-                            quayrudder open lysozyme_01_0001.sfrm --form 1+2 --room 4096 -o lyso1\n  \
-                            quayrudder open --below frames -o archive"
+        after_help = "Examples:\n  quayrudder open lysozyme_01_0001.sfrm --form 1+2 --room 4096 -o lyso1\n  \
+                            quayrudder open --below frames --form 1+2 -o archive"
     )]
     Open(Open),
     /// Correct the count of one pixel of a holding, or those of a whole table; the last correction of a pixel decides
@@ -232,10 +229,9 @@ pub struct Write {
     /// The format of the counts, where the name does not end in it: npy or raw
     #[arg(long = "as", value_name = "FORMAT", value_parser = formats::parse)]
     pub format: Option<&'static Format>,
-    /// The form: the one with the fewest bytes, or bytes per pixel, and +1 or +2 for the baseline subtracted with underflow
-    /// entries of so many bytes
-    #[arg(long, value_parser = FormParser)]
-    pub form: AskedForm,
+    /// Bytes per pixel, and +1 or +2 for the baseline subtracted with underflow entries of so many bytes
+    #[arg(long, value_parser = parse_form)]
+    pub form: Form,
     /// The frame to write, - for standard output
     #[arg(short, long, value_name = "OUT")]
     pub output: PathBuf,
@@ -248,10 +244,9 @@ pub struct Write {
 pub struct Open {
     #[command(flatten)]
     pub names: Names,
-    /// The form that they are held in for good: the one with the fewest bytes, or bytes per pixel, and +1 or +2 for the
-    /// baseline subtracted with underflow entries of so many bytes
-    #[arg(long, value_parser = FormParser, default_value = "smallest")]
-    pub form: AskedForm,
+    /// Bytes per pixel, and +1 or +2 for the baseline subtracted with underflow entries of so many bytes
+    #[arg(long, value_parser = parse_form)]
+    pub form: Form,
     /// Bytes for the frame to grow by, which saves copies later: a correction takes at most 48, and gets them anyway
     #[arg(long, value_name = "BYTES", default_value_t = 4096)]
     pub room: u32,
@@ -374,6 +369,13 @@ pub fn parse_date(text: &str) -> Result<Date, String> {
     }
     let number = |from: usize, to: usize| text[from..to].parse().map_err(|_| "no number".to_string());
     Ok(Date { year: number(0, 4)?, month: number(5, 7)?, day: number(8, 10)? })
+}
+
+/// `2`, or `1+2`. Whether there is such a form is for the library to say.
+pub fn parse_form(text: &str) -> Result<Form, String> {
+    let (width, underflow) = text.split_once('+').unwrap_or((text, "0"));
+    let number = |digits: &str| digits.parse().map_err(|_| "a form is written like 2 or 1+2".to_string());
+    Ok(Form { width: number(width)?, underflow: number(underflow)? })
 }
 
 pub fn parse_place(text: &str) -> Result<Place, String> {

@@ -3,13 +3,12 @@ use crate::args::Write;
 use crate::dtrek;
 use crate::failure::{shown, Failure, Outcome, Refused};
 use crate::formats;
-use crate::forms::AskedForm;
 use crate::mar;
 use crate::output::Output;
 use crate::pixels::{Counts, Given};
-use crate::refusals::frame_sentence;
+use crate::refusals::sentence;
 use crate::streams;
-use quayrudder::{Form, FormAnswer, HeaderAnswer, ReadAnswer};
+use quayrudder::{Form, HeaderAnswer, ReadAnswer};
 use serde_json::json;
 use std::path::Path;
 
@@ -45,8 +44,7 @@ pub fn refused(file: &Path, bytes: &[u8], number: u32, place: u32, column: u32) 
         _ if dtrek::is_dtrek(bytes) => only_read("d*TREK"),
         _ => String::new(),
     };
-    let said = frame_sentence(number, quayrudder::header(bytes).format);
-    Failure::Refused(Refused { file: file.into(), number, place, column, note, said })
+    Failure::Refused(Refused { file: file.into(), number, place, column, note, said: sentence(number) })
 }
 
 fn only_read(format: &str) -> String {
@@ -122,6 +120,14 @@ pub fn counts(file: &Path) -> Outcome<Counts> {
     }
 }
 
+/// A form as it is asked for: `2`, or `1+2`.
+pub fn form_text(width: u32, underflow: u32) -> String {
+    match underflow {
+        0 => width.to_string(),
+        entry => format!("{width}+{entry}"),
+    }
+}
+
 pub fn write(output: &mut Output, asked: &Write) -> Outcome<()> {
     output.make_way_for(&asked.output);
     streams::must_come_once([asked.header.as_path(), &asked.pixels])?;
@@ -130,37 +136,23 @@ pub fn write(output: &mut Output, asked: &Write) -> Outcome<()> {
     let header = header(&asked.header, &bytes)?;
     let given = format.decode(&asked.pixels, &streams::input(&asked.pixels)?)?;
     must_fit(&asked.pixels, &given, &header)?;
-    let (form, frame) = written(asked, &bytes, &header, &given.pixels)?;
-    streams::output(&asked.output, &frame, asked.force)?;
-    let (name, said, length) = (shown(&asked.output), asked.form.text(form), frame.len());
-    let text = format!("{name}: {} rows, {} columns, form {said}, {length} bytes", header.rows, header.columns);
+    let mut out = vec![0; most_bytes(&header)];
+    let answer = quayrudder::write(&bytes, &given.pixels, asked.form, &mut out);
+    match answer.refusal {
+        0 => {}
+        10 => return Err(Failure::refused(&asked.pixels, 10)),
+        number => return Err(refused(&asked.header, &bytes, number, answer.place, answer.column)),
+    }
+    streams::output(&asked.output, &out[..answer.length as usize], asked.force)?;
+    let (name, Form { width, underflow }) = (shown(&asked.output), asked.form);
+    let form = form_text(width, underflow);
+    let text =
+        format!("{name}: {} rows, {} columns, form {form}, {} bytes", header.rows, header.columns, answer.length);
     let value = json!({
-        "file": name, "rows": header.rows, "columns": header.columns, "width": form.width,
-        "underflow_width": form.underflow, "bytes": length,
+        "file": name, "rows": header.rows, "columns": header.columns, "width": width, "underflow_width": underflow,
+        "bytes": answer.length,
     });
-    output.say(&text, &asked.form.noted(value))
-}
-
-/// The frame and its form. For the smallest one as many bytes are lent as are foretold.
-fn written(asked: &Write, bytes: &[u8], header: &HeaderAnswer, pixels: &[u32]) -> Outcome<(Form, Vec<u8>)> {
-    let accepted = |number, place, column| match number {
-        0 => Ok(()),
-        10 => Err(Failure::refused(&asked.pixels, 10)),
-        _ => Err(refused(&asked.header, bytes, number, place, column)),
-    };
-    let (form, most) = match asked.form {
-        AskedForm::Named(form) => (form, most_bytes(header)),
-        AskedForm::Smallest => {
-            let FormAnswer { refusal, place, column, width, underflow, length } = quayrudder::smallest(bytes, pixels);
-            accepted(refusal, place, column)?;
-            (Form { width, underflow }, length as usize)
-        }
-    };
-    let mut out = vec![0; most];
-    let answer = quayrudder::write(bytes, pixels, form, &mut out);
-    accepted(answer.refusal, answer.place, answer.column)?;
-    out.truncate(answer.length as usize);
-    Ok((form, out))
+    output.say(&text, &value)
 }
 
 /// Counts of another shape, or more of them, are a mistake. Too few are the library's refusal 10.

@@ -140,7 +140,7 @@ impl Holding {
         match files::exists(&self.ledger)? || files::exists(&self.redo)? {
             true => Ok(()),
             false => Err(Failure::machine(&self.ledger, "find")(Error::from(ErrorKind::NotFound))
-                .so("Make a holding with `quayrudder open FRAME -o NAME`, or check the name.")),
+                .so("Make a holding with `quayrudder open FRAME --form FORM -o NAME`, or check the name.")),
         }
     }
 

@@ -3,17 +3,15 @@ use crate::args::Info;
 use crate::batch::Said;
 use crate::dtrek;
 use crate::failure::{printable, shown, Failure, Outcome};
-use crate::forms::form_text;
-use crate::frames::{self, Kind};
+use crate::frames::{self, form_text, Kind};
 use crate::mar;
 use crate::names;
 use crate::options::InfoOptions;
 use crate::output::Output;
 use crate::streams;
-use quayrudder::{FormAnswer, HeaderAnswer};
+use quayrudder::HeaderAnswer;
 use rustix::fs::{fadvise, Advice};
 use serde_json::{json, Value};
-use std::cmp::Ordering;
 use std::fs::File;
 use std::io::Read;
 use std::path::Path;
@@ -34,15 +32,6 @@ pub struct End {
     pub bytes: u64,
 }
 
-/// What is known of a file: of one whose header alone was read, neither its end nor its smallest form.
-struct Found {
-    bytes: Vec<u8>,
-    kind: Kind,
-    end: Option<End>,
-    /// Of a frame that can be written.
-    smallest: Option<FormAnswer>,
-}
-
 pub fn info(output: &mut Output, asked: &Info) -> Outcome<()> {
     let found = names::frames(&asked.names, None)?;
     found.each(output, &["accepted"], |item| {
@@ -52,15 +41,23 @@ pub fn info(output: &mut Output, asked: &Info) -> Outcome<()> {
 
 /// What one file is.
 pub fn info_one(file: &Path, options: &InfoOptions) -> Outcome<(String, Value)> {
-    let found = if options.quick { Found::by_header(file)? } else { Found::whole(file)? };
-    let end = found.end;
-    let (mut text, mut value) = match &found.kind {
-        Kind::Bruker(header) => (found.bruker_text(file, header), found.bruker_value(file, header)),
+    let (bytes, kind, end) = if options.quick {
+        let bytes = header_bytes(file)?;
+        let kind = frames::kind(file, &bytes)?;
+        (bytes, kind, None)
+    } else {
+        let bytes = streams::input(file)?;
+        let frame = frames::read(file, &bytes)?;
+        let end = End { end: frame.end, bytes: bytes.len() as u64 };
+        (bytes, frame.kind, Some(end))
+    };
+    let (mut text, mut value) = match &kind {
+        Kind::Bruker(header) => (bruker_text(file, header, end), bruker_value(file, header, end)),
         Kind::Mar(entries) => (entries.text(file, end), entries.value(file, end)),
         Kind::Dtrek(header) => (header.text(file, end), header.value(file, end)),
     };
-    if let (Kind::Bruker(header), true) = (&found.kind, options.header) {
-        let lines = header_lines(&found.bytes[..header.start as usize]);
+    if let (Kind::Bruker(header), true) = (&kind, options.header) {
+        let lines = header_lines(&bytes[..header.start as usize]);
         text.extend(lines.iter().map(|(_, line)| format!("\n  {line}")));
         value["lines"] = lines.iter().map(|(number, line)| json!({"line": number, "text": line})).collect();
     }
@@ -78,72 +75,33 @@ pub fn end_text(thing: &str, end: Option<End>) -> String {
     }
 }
 
-impl Found {
-    fn by_header(file: &Path) -> Outcome<Found> {
-        let bytes = header_bytes(file)?;
-        let kind = frames::kind(file, &bytes)?;
-        Ok(Found { bytes, kind, end: None, smallest: None })
-    }
+fn bruker_text(file: &Path, h: &HeaderAnswer, end: Option<End>) -> String {
+    let baseline = match h.subtracted {
+        0 => "no baseline".to_string(),
+        _ => format!("baseline {} subtracted", h.baseline),
+    };
+    let (form, entries) = match h.format {
+        86 => (format!("{} bytes per pixel", h.width), format!("overflow {}", h.entries)),
+        _ => (
+            format!("form {}, {baseline}", form_text(h.width, h.entry)),
+            format!("underflow {}, two-byte {}, four-byte {}", h.underflows, h.two, h.four),
+        ),
+    };
+    let (name, end) = (shown(file), end_text("frame", end));
+    format!(
+        "{name}: FORMAT {}, {} rows, {} columns, {form}\n  entries: {entries}\n  header {} bytes, {end}",
+        h.format, h.rows, h.columns, h.start,
+    )
+}
 
-    fn whole(file: &Path) -> Outcome<Found> {
-        let bytes = streams::input(file)?;
-        let frame = frames::read(file, &bytes)?;
-        let end = Some(End { end: frame.end, bytes: bytes.len() as u64 });
-        let smallest = match frame.kind {
-            Kind::Bruker(_) => Some(quayrudder::smallest(&bytes, &frame.counts.pixels)),
-            Kind::Mar(_) | Kind::Dtrek(_) => None,
-        };
-        Ok(Found { bytes, kind: frame.kind, end, smallest: smallest.filter(|form| form.refusal == 0) })
-    }
-
-    fn bruker_text(&self, file: &Path, h: &HeaderAnswer) -> String {
-        let baseline = match h.subtracted {
-            0 => "no baseline".to_string(),
-            _ => format!("baseline {} subtracted", h.baseline),
-        };
-        let (form, entries) = match h.format {
-            86 => (format!("{} bytes per pixel", h.width), format!("overflow {}", h.entries)),
-            _ => (
-                format!("form {}, {baseline}", form_text(h.width, h.entry)),
-                format!("underflow {}, two-byte {}, four-byte {}", h.underflows, h.two, h.four),
-            ),
-        };
-        let (name, end, smallest) = (shown(file), end_text("frame", self.end), self.smallest_text(h));
-        format!(
-            "{name}: FORMAT {}, {} rows, {} columns, {form}\n  entries: {entries}\n  header {} bytes, {end}{smallest}",
-            h.format, h.rows, h.columns, h.start,
-        )
-    }
-
-    /// A line about the smallest form, where there is one. A frame may have this form and be longer, by entries that are not needed.
-    fn smallest_text(&self, h: &HeaderAnswer) -> String {
-        let (Some(FormAnswer { width, underflow, length, .. }), Some(End { end, .. })) = (self.smallest, self.end)
-        else {
-            return String::new();
-        };
-        let same_form = (h.width, h.entry, h.subtracted == 1) == (width, underflow, underflow != 0);
-        let compared = match length.cmp(&end) {
-            Ordering::Equal if same_form => return "\n  already in its smallest form".to_string(),
-            Ordering::Equal => "just as many".to_string(),
-            Ordering::Less => format!("{} fewer", end - length),
-            Ordering::Greater => format!("{} more", length - end),
-        };
-        format!("\n  smallest form {}: {length} bytes, {compared}", form_text(width, underflow))
-    }
-
-    fn bruker_value(&self, file: &Path, h: &HeaderAnswer) -> Value {
-        let (end, smallest) = (self.end, self.smallest);
-        json!({
-            "file": shown(file), "format": h.format, "rows": h.rows, "columns": h.columns,
-            "width": h.width, "underflow_width": h.entry, "baseline_subtracted": h.subtracted == 1,
-            "baseline": h.baseline, "overflow_entries": h.entries, "underflow_entries": h.underflows,
-            "two_byte_entries": h.two, "four_byte_entries": h.four,
-            "header_bytes": h.start, "end": end.map(|end| end.end), "bytes": end.map(|end| end.bytes),
-            "smallest_width": smallest.map(|form| form.width),
-            "smallest_underflow_width": smallest.map(|form| form.underflow),
-            "smallest_bytes": smallest.map(|form| form.length),
-        })
-    }
+fn bruker_value(file: &Path, h: &HeaderAnswer, end: Option<End>) -> Value {
+    json!({
+        "file": shown(file), "format": h.format, "rows": h.rows, "columns": h.columns,
+        "width": h.width, "underflow_width": h.entry, "baseline_subtracted": h.subtracted == 1, "baseline": h.baseline,
+        "overflow_entries": h.entries, "underflow_entries": h.underflows,
+        "two_byte_entries": h.two, "four_byte_entries": h.four,
+        "header_bytes": h.start, "end": end.map(|end| end.end), "bytes": end.map(|end| end.bytes),
+    })
 }
 
 /// The lines that are not blank, with their numbers from 0 and without the spaces at their ends.

@@ -14,7 +14,6 @@ mod expand;
 mod failure;
 mod files;
 mod formats;
-mod forms;
 mod frames;
 mod given;
 mod holding;

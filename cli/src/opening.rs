@@ -3,7 +3,6 @@ use crate::args::Open;
 use crate::batch::Said;
 use crate::digest::{hex, Digest, State};
 use crate::failure::{shown, Outcome};
-use crate::forms::AskedForm;
 use crate::frames;
 use crate::holding::{Change, Holding};
 use crate::names;
@@ -11,7 +10,7 @@ use crate::output::Output;
 use crate::outputs::Outputs;
 use crate::streams;
 use crate::sums;
-use quayrudder::{Form, OpenAnswer, OpenFormAnswer};
+use quayrudder::{Form, OpenAnswer};
 use serde_json::json;
 use std::path::Path;
 use std::time::Duration;
@@ -19,7 +18,7 @@ use std::time::Duration;
 /// A frame as it is to be held.
 struct Opened {
     held: Vec<u8>,
-    answer: OpenFormAnswer,
+    answer: OpenAnswer,
     /// That of the frame that came in.
     sha256: [u8; 32],
 }
@@ -34,7 +33,7 @@ pub fn open(output: &mut Output, asked: &Open, wait: Option<Duration>) -> Outcom
         let holding = if found.many { Holding::exactly(&name, wait) } else { Holding::named(&name, wait)? };
         let opened = Opened::read(&item.path, asked.form)?;
         if found.many && opened.is(&holding)? {
-            return Ok(opened.already(&holding, asked.form));
+            return Ok(already_open(&holding));
         }
         outputs.make_way(&name)?;
         opened.hold(&item.path, &holding, asked)
@@ -42,12 +41,12 @@ pub fn open(output: &mut Output, asked: &Open, wait: Option<Duration>) -> Outcom
 }
 
 impl Opened {
-    fn read(file: &Path, form: AskedForm) -> Outcome<Opened> {
+    fn read(file: &Path, form: Form) -> Outcome<Opened> {
         let frame = streams::input(file)?;
         let header = frames::header(file, &frame)?;
         let mut pixels = vec![0; frames::pixel_count(&header)];
         let mut held = vec![0; frames::most_bytes(&header)];
-        let answer = opened_in(form, &frame, &mut pixels, &mut held);
+        let answer = quayrudder::open(&frame, &mut pixels, form, &mut held);
         match answer.refusal {
             0 => Ok(Opened { held, answer, sha256: Digest::of(&frame).sha256 }),
             number => Err(frames::refused(file, &frame, number, answer.place, answer.column)),
@@ -72,42 +71,20 @@ impl Opened {
         let notes = sums::frame_note(&self.sha256, frame);
         let change = Change { held: Some(&self.held), ledger: Some(&[]), notes: Some(&notes), ..Change::default() };
         owned.commit(State::default(), &change).inspect_err(|_| owned.leave_no_lock())?;
-        let (name, form) = (shown(&holding.name), asked.form.text(self.form()));
-        let (OpenFormAnswer { rows, columns, width, underflow, length, .. }, room) = (self.answer, asked.room);
+        let (name, form) = (shown(&holding.name), frames::form_text(asked.form.width, asked.form.underflow));
+        let (OpenAnswer { rows, columns, length, .. }, room) = (self.answer, asked.room);
         let text =
             format!("{name}: {rows} rows, {columns} columns held in form {form}, {length} bytes and room for {room}");
-        let value = asked.form.noted(json!({
-            "name": name, "rows": rows, "columns": columns, "width": width, "underflow_width": underflow,
-            "bytes": length, "room": room,
-        }));
-        Ok(Said { text, value, counted: "opened" })
-    }
-
-    fn already(&self, holding: &Holding, form: AskedForm) -> Said {
-        let (name, had) = (shown(&holding.name), self.form());
-        let which = match form {
-            AskedForm::Smallest => format!("form {}", form.text(had)),
-            AskedForm::Named(_) => "this form".to_string(),
-        };
-        let text = format!("{name}: already open, from this very frame in {which}");
         let value = json!({
-            "name": name, "already_open": true, "width": had.width, "underflow_width": had.underflow,
+            "name": name, "rows": rows, "columns": columns, "width": asked.form.width,
+            "underflow_width": asked.form.underflow, "bytes": length, "room": room,
         });
-        Said { text, value: form.noted(value), counted: "already open" }
-    }
-
-    fn form(&self) -> Form {
-        Form { width: self.answer.width, underflow: self.answer.underflow }
+        Ok(Said { text, value, counted: "opened" })
     }
 }
 
-/// The library's answer to either way of opening, with the form that was had.
-fn opened_in(form: AskedForm, frame: &[u8], pixels: &mut [u32], held: &mut [u8]) -> OpenFormAnswer {
-    let Form { width, underflow } = match form {
-        AskedForm::Smallest => return quayrudder::open_smallest(frame, pixels, held),
-        AskedForm::Named(form) => form,
-    };
-    let answer = quayrudder::open(frame, pixels, Form { width, underflow }, held);
-    let OpenAnswer { refusal, place, column, rows, columns, end, length } = answer;
-    OpenFormAnswer { refusal, place, column, rows, columns, width, underflow, end, length }
+fn already_open(holding: &Holding) -> Said {
+    let name = shown(&holding.name);
+    let text = format!("{name}: already open, from this very frame in this form");
+    Said { text, value: json!({"name": name, "already_open": true}), counted: "already open" }
 }

@@ -33,7 +33,7 @@ const SENTENCES: [Sentence; 38] = [
     bad("an overflow entry is malformed, belongs to no marked pixel or is a second one", "The overflow table is damaged: take another copy of the frame."),
     bad("the tables have more or fewer entries than the image calls for", "Compare NOVERFL (line 20) with the image: take another copy of the frame."),
     bad("a count and the baseline are above 4,294,967,295 together", "Look at the baseline in header line 79."),
-    no("this form cannot be had for this frame", "Ask for 1, 2 or 4, alone or with +1 or +2 (--form 1+2), or for the smallest (--form smallest). +1 and +2 need a baseline in header line 79."),
+    no("this form cannot be had for this frame", "Ask for 1, 2 or 4, alone or with +1 or +2 (--form 1+2). FORMAT 86 is only read, and +1 and +2 need a baseline in header line 79."),
     no("an underflow entry is too large for one byte", "Use underflow entries of two bytes: open or write the frame with a form that ends in +2."),
     no("the held file has no room for the longer frame", "Lend it 48 bytes more: the command does so by itself."),
     bad("the held file is no frame as the writer makes it", "It was damaged or changed by hand: restore the holding from its copy."),
@@ -58,13 +58,7 @@ const SENTENCES: [Sentence; 38] = [
     bad("the header buffer is too short", "Lend 32,768 bytes for the header."),
 ];
 
-// What else is said of a frame of the older format.
-const OLD_FORMAT: Sentence = no(
-    "FORMAT 86 is only read, and no form can be had for it",
-    "`info`, `view` and `expand` take it. To hold its counts, expand them and write them with a FORMAT 100 header of as many rows and columns (`quayrudder write`).",
-);
-
-// And of a mar image.
+// What else is said of a mar image.
 const MAR_TRUNCATED: Sentence = bad(
     "the bytes end within the header record",
     "Compare the file's size with its copy: it is cut short, or it is no mar image.",
@@ -105,14 +99,6 @@ pub type Sentences = fn(u32) -> &'static Sentence;
 pub fn sentence(number: u32) -> &'static Sentence {
     let place = (number as usize).wrapping_sub(1);
     SENTENCES.get(place).unwrap_or(&UNKNOWN)
-}
-
-/// The sentence where a frame of this FORMAT is read, written or opened.
-pub fn frame_sentence(number: u32, format: u32) -> &'static Sentence {
-    match (number, format) {
-        (16, 86) => &OLD_FORMAT,
-        _ => sentence(number),
-    }
 }
 
 /// The sentence where a mar image is read.

@@ -154,10 +154,8 @@ fn failed_at_every_step_of_an_amend() {
 
 #[test]
 fn killed_and_failed_at_every_step_of_opening() {
-    for words in ["open a.sfrm --form 1+2 --room 50 -o a", "open a.sfrm --room 50 -o a"] {
-        at_every_step(words, &KILLS, 26);
-        at_every_step(words, &ERRORS, 26);
-    }
+    at_every_step("open a.sfrm --form 1+2 --room 50 -o a", &KILLS, 26);
+    at_every_step("open a.sfrm --form 1+2 --room 50 -o a", &ERRORS, 26);
 }
 
 #[test]

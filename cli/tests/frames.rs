@@ -13,8 +13,7 @@ fn info_says_what_a_frame_is() {
     assert_eq!(
         said,
         "a.sfrm: FORMAT 100, 1 rows, 4 columns, form 1+1, baseline 32 subtracted\n  \
-         entries: underflow 1, two-byte 2, four-byte 1\n  header 7680 bytes, frame ends at byte 7732 of 7732\n  \
-         smallest form 4: 7696 bytes, 36 fewer\n"
+         entries: underflow 1, two-byte 2, four-byte 1\n  header 7680 bytes, frame ends at byte 7732 of 7732\n"
     );
     let json = f.done("info a.sfrm --json");
     assert!(json.contains(r#""format":100,"rows":1,"columns":4"#) && json.contains(r#""end":7732"#), "{json}");

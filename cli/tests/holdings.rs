@@ -302,7 +302,7 @@ fn bad_usage_has_its_status() {
     for words in usages {
         assert_eq!(f.run(words).status, Some(2), "{words}");
     }
-    for words in ["correct a 1 -1", "open a", "sweep", "sweep . --day 11/02/2031", "list a/"] {
+    for words in ["correct a 1 -1", "open a -o b", "sweep", "sweep . --day 11/02/2031", "list a/"] {
         assert_eq!(f.run(words).status, Some(2), "{words}");
     }
     for words in ["compact", "compact a/", "compact -", "compact a --log x"] {

@@ -2,9 +2,10 @@
 mod common;
 use common::header::{Header, LENGTH};
 use common::random::Random;
-use common::{command, faulty, folder, frame, manual_shows, plain_frame, ran, state_of, unraw, wide_frame};
-use common::{Folder, Ran, State, FORMS};
+use common::{command, faulty, folder, frame, plain_frame, ran, state_of, unraw, wide_frame, Folder, Ran, State};
 use std::collections::BTreeMap;
+use std::path::Path;
+use std::process::Command;
 use std::thread;
 
 /// A pixel's number and the count that it gets.
@@ -12,6 +13,8 @@ type Correction = (usize, u32);
 
 /// A held file, and its sum as it is noted beside it.
 type Held = (Vec<u8>, String);
+
+const FORMS: [&str; 9] = ["1", "1+1", "1+2", "2", "2+1", "2+2", "4", "4+1", "4+2"];
 
 /// Around the baseline of 32, and around what one byte and two bytes hold, with the baseline subtracted and without.
 const EDGES: [u32; 15] = [0, 31, 32, 33, 254, 255, 256, 286, 287, 65534, 65535, 65536, 65566, 65567, u32::MAX];
@@ -436,7 +439,25 @@ fn takes_all_back(f: &Folder, lists: &[[Named; 3]]) {
 
 // The manual
 
+/// What the shell says to a line in which `quayrudder` is the real command.
+fn by_shell(f: &Folder, line: &str) -> String {
+    let folder = Path::new(env!("CARGO_BIN_EXE_quayrudder")).parent().unwrap().display();
+    let path = format!("{folder}:{}", std::env::var("PATH").unwrap());
+    let ran = ran(Command::new("sh").args(["-c", line]).env("PATH", path).current_dir(f.path()).output().unwrap());
+    ran.out + &ran.err
+}
+
 #[test]
 fn the_manual_shows_what_the_commands_say() {
-    manual_shows("In which order?", 42);
+    let manual = std::fs::read_to_string(concat!(env!("CARGO_MANIFEST_DIR"), "/../docs/MANUAL.md")).unwrap();
+    let (_, section) = manual.split_once("\n### In which order?\n").unwrap();
+    let (section, _) = section.split_once("\n## ").unwrap();
+    let example: Vec<&str> = section.lines().filter_map(|line| line.strip_prefix("    ")).collect();
+    let f = folder();
+    let mut counts = vec![42; 256 * 384];
+    counts[100 * 384 + 250] = 4_000_000;
+    f.put("lyso_0001.sfrm", wide_frame(256, 384, &counts));
+    let lines = example.iter().filter_map(|line| line.strip_prefix("$ "));
+    let said: String = lines.map(|line| format!("$ {line}\n{}", by_shell(&f, line))).collect();
+    assert_eq!(said.lines().collect::<Vec<&str>>(), example);
 }

@@ -10,8 +10,7 @@ Any bytes give an image or one numbered refusal, which is raised as `Refusal`:
 ('1 0 32', 107632)
 
 `read` takes Bruker frames (FORMAT 100 and 86), `read_mar` uncompressed mar images and `read_dtrek` d*TREK images, each a path or
-bytes that are in memory already. `write` makes a frame of counts, in the form with the fewest bytes, which `smallest` names, or in another. The
-counts are numpy arrays that the library fills or reads where they lie.
+bytes that are in memory already. `write` makes a frame of counts. The counts are numpy arrays that the library fills or reads where they lie.
 
 >>> try:
 ...     quayrudder.read(b"no frame at all")
@@ -22,7 +21,7 @@ counts are numpy arrays that the library fills or reads where they lie.
 A frame that is held in the archive, with its ledger of corrections and keep dates, is a `Holding`. Its changes go through the command
 `quayrudder`, so that lock, record and sums are the command's:
 
->>> holding = quayrudder.Holding.open("example.sfrm", "lyso1")
+>>> holding = quayrudder.Holding.open("example.sfrm", "lyso1", form="1+2")
 >>> holding.correct((100, 250), 90)
 Line(number=1, kind='correct', withdrawn=False, pixel=38650, old=4000000, new=90, date=None)
 >>> holding.keep("2031-11-02").date
@@ -38,9 +37,7 @@ datetime.date(2031, 11, 2)
 REFUSALS.md and MANUAL.md, which are installed beside (share/doc/quayrudder).
 """
 from .holding import Holding, Line, PurgeAnswer
-from .images import Image, Smallest, read, read_dtrek, read_mar, smallest, write
+from .images import Image, read, read_dtrek, read_mar, write
 from .refusals import Error, Refusal
 
-__all__ = [
-    "Error", "Holding", "Image", "Line", "PurgeAnswer", "Refusal", "Smallest", "read", "read_dtrek", "read_mar", "smallest", "write",
-]
+__all__ = ["Error", "Holding", "Image", "Line", "PurgeAnswer", "Refusal", "read", "read_dtrek", "read_mar", "write"]

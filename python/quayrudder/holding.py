@@ -9,7 +9,7 @@ import subprocess
 from typing import Any, List, NamedTuple, Optional, Sequence, Union
 
 from . import places
-from .images import SMALLEST, Image, form_text, read
+from .images import Image, read
 from .refusals import Error, Refusal
 
 Path = Union[str, "os.PathLike[str]"]
@@ -58,7 +58,7 @@ class Holding:
     Every method runs the command, which locks the holding, checks it against its sums and makes a change as a whole or not at all. It waits `wait`
     seconds for another process that is at work on the holding, and without end if that is None.
 
-    >>> holding = Holding.open("example.sfrm", "lyso2")
+    >>> holding = Holding.open("example.sfrm", "lyso2", form="1+2")
     >>> holding.correct(38650, 90).old
     4000000
     >>> holding.amend(95).new
@@ -87,14 +87,12 @@ class Holding:
         return f"Holding({self.name!r})"
 
     @classmethod
-    def open(cls, frame: Path, name: Path, form: str = SMALLEST, room: int = 4096) -> Holding:
-        """Opens a frame: makes the holding `name` of it in its smallest form, or in this one, with so many bytes to grow by. A holding that exists is kept.
+    def open(cls, frame: Path, name: Path, form: str, room: int = 4096) -> Holding:
+        """Opens a frame: makes the holding `name` of it in this form, with so many bytes to grow by. A holding that exists is kept.
 
-        >>> Holding.open("example.sfrm", "lyso3").form()
-        '1'
-        >>> Holding.open("example.sfrm", "lyso8", form="1+2").form()
-        '1+2'
-        >>> Holding.open("example.sfrm", "lyso3")
+        >>> Holding.open("example.sfrm", "lyso3", form="1+2")
+        Holding('lyso3')
+        >>> Holding.open("example.sfrm", "lyso3", form="1+2")
         Traceback (most recent call last):
         quayrudder.refusals.Error: lyso3.held: exists already and is kept. Give the new holding another name
         """
@@ -106,7 +104,7 @@ class Holding:
 
         The last correction of a pixel decides. Corrections of different pixels leave the same frame in either order, and other ledgers.
 
-        >>> one, two = (Holding.open("example.sfrm", name) for name in ("lyso6", "lyso7"))
+        >>> one, two = (Holding.open("example.sfrm", name, form="1+2") for name in ("lyso6", "lyso7"))
         >>> one.correct((100, 250), 90).number, one.correct(7, 12).number
         (1, 2)
         >>> two.correct(7, 12).number, two.correct((100, 250), 95).number, two.correct((100, 250), 90).number
@@ -151,7 +149,7 @@ class Holding:
 
         Raises Refusal for a ledger that is malformed (20) and for a day that is none (25).
 
-        >>> holding = Holding.open("example.sfrm", "lyso4")
+        >>> holding = Holding.open("example.sfrm", "lyso4", form="1+2")
         >>> holding.why_day("2031-11-03")
         PurgeAnswer(may_purge=False, line=None)
         >>> holding.keep("2040-01-01").number, holding.keep("2031-11-02", shorten=True).number
@@ -171,7 +169,7 @@ class Holding:
         Only the ledger is asked for a number, so any is a fair question; a row and column are looked up in the held frame, and
         Refusal 24 is raised where it has no such pixel. A ledger that is malformed raises Refusal 20.
 
-        >>> holding = Holding.open("example.sfrm", "lyso5")
+        >>> holding = Holding.open("example.sfrm", "lyso5", form="1+2")
         >>> holding.correct((100, 250), 90).number, holding.correct(7, 12).number
         (1, 2)
         >>> holding.why_pixel((100, 250))
@@ -189,11 +187,6 @@ class Holding:
     def verify(self) -> None:
         """Checks the files against their sums and the held frame against its ledger, to its last byte. Raises what is wrong."""
         self._run("verify")
-
-    def form(self) -> str:
-        """The form that the frame is held in, such as "1+2". No change of the holding changes it. Of the held file only the header is read."""
-        said = _run("info", "--quick", "--", os.fspath(self._held()))
-        return form_text(said["width"], said["underflow_width"])
 
     def read(self) -> Image:
         """The frame with its corrections, as `quayrudder.read` gives it."""

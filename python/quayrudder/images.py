@@ -10,9 +10,6 @@ from numpy.typing import ArrayLike
 from .library import Bytes, Pixels, Source, call, lent
 from .refusals import Refusal
 
-# The word for the form with the fewest bytes.
-SMALLEST = "smallest"
-
 
 class Image(NamedTuple):
     """An image that was accepted.
@@ -25,17 +22,6 @@ class Image(NamedTuple):
     pixels: Pixels
     header: dict[Any, Any]
     end: int
-
-
-class Smallest(NamedTuple):
-    """The form in which a frame has the fewest bytes.
-
-    form: as `write` and `Holding.open` take it
-    length: the bytes of the frame in this form
-    """
-
-    form: str
-    length: int
 
 
 def read(source: Source) -> Image:
@@ -90,66 +76,34 @@ def read_dtrek(source: Source) -> Image:
     return Image(pixels, _items(data), end)
 
 
-def write(header: Source, pixels: ArrayLike, form: str = SMALLEST) -> bytearray:
+def write(header: Source, pixels: ArrayLike, form: str) -> bytearray:
     """The bytes of a FORMAT 100 frame of these counts.
 
     header: a path or bytes that start with an accepted FORMAT 100 header, such as a frame, with as many rows and columns
     pixels: whole numbers from 0 to 4294967295; an array of rows and columns, 32-bit unsigned, is read where it lies
-    form: "smallest" for the one with the fewest bytes; or bytes per pixel ("1", "2" or "4"), and "+1" or "+2" for the baseline subtracted with
-        underflow entries of so many bytes
+    form: bytes per pixel ("1", "2" or "4"), and "+1" or "+2" for the baseline subtracted with underflow entries of so many bytes
 
     >>> pixels = read("example.sfrm").pixels
     >>> pixels[100, 250] = 90
-    >>> frame = write("example.sfrm", pixels)
+    >>> frame = write("example.sfrm", pixels, "1+1")
     >>> len(frame), bool((read(frame).pixels == pixels).all())
     (107632, True)
-    >>> len(write("example.sfrm", pixels, "2+1"))
-    204416
 
-    Raises Refusal, with the numbers 1 to 10 and 16, and 17 for a form that was named.
+    Raises Refusal, with the numbers 1 to 10, 16 and 17.
     """
     data, name = lent(header)
-    counts, said = _fitting(data, name, pixels)
-    # At most an entry in each table for every pixel, and three paddings.
-    most = said.start + 9 * said.rows * said.columns + 48
-    if form == SMALLEST:
-        form, most = _smallest(data, name, counts)
-    width, underflow = _form(form)
-    out = bytearray(most)
-    answer = call("qr_write", data, counts, width, underflow, numpy.frombuffer(out, numpy.uint8))
-    _accepted(answer, name)
-    del out[answer.length:]
-    return out
-
-
-def smallest(header: Source, pixels: ArrayLike) -> Smallest:
-    """The form in which `write` makes the shortest frame of these counts, and its length. Where several are as short, fewer bytes per pixel
-    come first, then a form without the baseline, then the shorter entry.
-
-    >>> smallest("example.sfrm", read("example.sfrm").pixels)
-    Smallest(form='1', length=107632)
-
-    Raises Refusal, with the numbers 1 to 10, and 16 for a header of FORMAT 86.
-    """
-    data, name = lent(header)
-    counts, _ = _fitting(data, name, pixels)
-    return _smallest(data, name, counts)
-
-
-def _smallest(data: Bytes, name: str | None, counts: Pixels) -> Smallest:
-    answer = call("qr_smallest", data, counts)
-    _accepted(answer, name)
-    return Smallest(form_text(answer.width, answer.underflow), int(answer.length))
-
-
-def _fitting(data: Bytes, name: str | None, pixels: ArrayLike) -> tuple[Pixels, Any]:
-    """The counts, and what the header says, which are of one shape. Too few counts are for the library to refuse."""
     counts = _counts(pixels)
+    width, underflow = _form(form)
     said = call("qr_header", data)
     _accepted(said, name)
     if counts.ndim > 1 and counts.shape != (said.rows, said.columns):
         raise ValueError(f"{counts.shape} counts for a header of {said.rows} rows and {said.columns} columns")
-    return counts, said
+    # At most an entry in each table for every pixel, and three paddings.
+    out = bytearray(said.start + 9 * said.rows * said.columns + 48)
+    answer = call("qr_write", data, counts, width, underflow, numpy.frombuffer(out, numpy.uint8))
+    _accepted(answer, name)
+    del out[answer.length:]
+    return out
 
 
 def _pixels(function: str, data: Bytes, name: str | None, said: Any) -> tuple[Pixels, int]:
@@ -202,14 +156,9 @@ def _counts(pixels: ArrayLike) -> Pixels:
     return numpy.ascontiguousarray(given, numpy.uint32)
 
 
-def form_text(width: int, underflow: int) -> str:
-    """A form by its name."""
-    return f"{width}+{underflow}" if underflow else str(width)
-
-
 def _form(text: str) -> tuple[int, int]:
     """Whether there is such a form is for the library to say."""
     width, _, underflow = text.partition("+")
     if not width.isdecimal() or not (underflow or "0").isdecimal():
-        raise ValueError(f"a form is written like 2 or 1+2, or it is {SMALLEST!r}, not {text!r}")
+        raise ValueError(f"a form is written like 2 or 1+2, not {text!r}")
     return int(width), int(underflow or 0)

@@ -27,7 +27,6 @@ def _answer(name: str, narrow: str, wide: str = "") -> type[ctypes.Structure]:
 
 _READ = _answer("qr_read_answer", "refusal place column rows columns", "end")
 _WRITE = _answer("qr_write_answer", "refusal place column", "length")
-_FORM = _answer("qr_form_answer", "refusal place column width underflow", "length")
 _HEADER = _answer("qr_header_answer", "refusal place column format start rows columns width entries subtracted entry baseline underflows two four")
 _MAR_ENTRY = _answer("qr_mar_entry_answer", "refusal is_float bits")
 _DTREK_HEADER = _answer("qr_dtrek_header_answer", "refusal start rows columns width big_endian", "end")
@@ -37,7 +36,6 @@ _DTREK_ITEM = _answer("qr_dtrek_item_answer", "refusal found", "key_start key_en
 _FUNCTIONS: dict[str, tuple[type[ctypes.Structure], str]] = {
     "qr_read": (_READ, "a a"),
     "qr_write": (_WRITE, "a a 32 32 a"),
-    "qr_smallest": (_FORM, "a a"),
     "qr_header": (_HEADER, "a"),
     "qr_mar_read": (_READ, "a a"),
     "qr_mar_entry": (_MAR_ENTRY, "a 32"),

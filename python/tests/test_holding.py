@@ -61,20 +61,6 @@ class Holdings(unittest.TestCase):
         self.holding.withdraw(), other.withdraw(), other.withdraw()
         self.assertTrue(self.files(self.holding)[0] == self.files(other)[0] == opened)
 
-    def test_the_form_is_the_smallest_unless_named_and_stays(self):
-        chosen = Holding.open("example.sfrm", self.holding.name + "c")
-        self.assertEqual((chosen.form(), self.holding.form()), (quayrudder.smallest("example.sfrm", chosen.read().pixels).form, "1+2"))
-        for holding, form in ((chosen, "1"), (self.holding, "1+2")):
-            for pixel in range(0, 80_000, 20_000):
-                holding.correct(pixel, 70_000)
-            holding.withdraw(), holding.amend(0), holding.keep("2031-11-02"), holding.compact()
-            self.assertEqual(holding.form(), form)
-            holding.verify()
-        same = Holding.open("example.sfrm", self.holding.name + "d", form="smallest")
-        self.assertEqual(same.form(), "1")
-        self.assertEqual(self.error(Holding.open, "example.sfrm", self.holding.name + "e", form="small"), "usage")
-        self.assertEqual(self.error(Holding("missing").form), "failed")
-
     def test_refusals_have_the_library_s_numbers(self):
         self.assertEqual(refused(self.holding.withdraw).number, 22)
         self.assertEqual(refused(self.holding.amend, 5).number, 22)

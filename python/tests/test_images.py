@@ -12,10 +12,6 @@ import quayrudder
 from quayrudder import images, library
 
 
-# In the order in which the first of the shortest is the smallest.
-FORMS = ("1", "1+1", "1+2", "2", "2+1", "2+2", "4", "4+1", "4+2")
-
-
 def refused(call, *arguments):
     """The refusal that a call raises."""
     try:
@@ -93,7 +89,7 @@ class Written(unittest.TestCase):
         self.counts = quayrudder.read("example.sfrm").pixels
 
     def test_every_form_is_read_back(self):
-        for form in (*FORMS, "smallest"):
+        for form in ("1", "2", "4", "1+1", "2+1", "4+1", "1+2", "2+2", "4+2"):
             frame = quayrudder.write("example.sfrm", self.counts, form)
             self.assertTrue((quayrudder.read(frame).pixels == self.counts).all(), form)
 
@@ -119,53 +115,6 @@ class Written(unittest.TestCase):
         self.assertEqual(refused(quayrudder.write, b"", self.counts, "1").number, 1)
         with self.assertRaises(ValueError):
             quayrudder.write("example.sfrm", self.counts, "one")
-
-
-class SmallestForm(unittest.TestCase):
-    def header(self, baseline=b"32"):
-        """A header of 8 rows and 8 columns."""
-        header = bytearray(pathlib.Path("example.sfrm").read_bytes()[:7680])
-        texts = {20: b"NOVERFL:-1 0 0", 39: b"NPIXELB:1 0", 40: b"NROWS  :8", 41: b"NCOLS  :8", 79: b"NEXP   :1 0 " + baseline}
-        for line, text in texts.items():
-            header[80 * line:80 * line + 80] = text.ljust(80)
-        return bytes(header)
-
-    def written(self, header, counts, form):
-        """The frame in this form, or None where it cannot be had."""
-        try:
-            return quayrudder.write(header, counts, form)
-        except quayrudder.Refusal as refusal:
-            self.assertIn(refusal.number, (16, 17))
-            return None
-
-    def test_it_is_the_first_of_the_shortest(self):
-        cases = ((60, 70, b"32", "1"), (270, 30, b"32", "1+1"), (400, 280, b"300", "1+2"), (1000, 0, b"32", "2"), (270, 271, b"none", "2"),
-                 (65540, 30, b"32", "2+1"), (65600, 280, b"300", "2+2"), (70000, 0, b"32", "4"))
-        for most, one, baseline, expected in cases:
-            header, counts = self.header(baseline), numpy.full((8, 8), most, numpy.uint32)
-            counts[3, 3] = one
-            answer = quayrudder.smallest(header, counts)
-            frames = {form: frame for form in FORMS if (frame := self.written(header, counts, form))}
-            shortest = min(frames, key=lambda form: len(frames[form]))
-            self.assertEqual(answer, (expected, len(frames[shortest])))
-            self.assertEqual((shortest, quayrudder.write(header, counts)), (expected, frames[shortest]))
-
-    def test_counts_of_any_kind_and_a_frame_for_a_header(self):
-        counts = quayrudder.read("example.sfrm").pixels
-        for pixels in (counts, counts.ravel(), counts.astype(">i8"), counts.tolist(), numpy.asfortranarray(counts)):
-            self.assertEqual(quayrudder.smallest("example.sfrm", pixels), quayrudder.Smallest("1", 107632))
-
-    def test_what_is_refused(self):
-        counts = numpy.zeros((8, 8), numpy.uint32)
-        old = self.header().replace(b"FORMAT :100", b"FORMAT :86 ").replace(b"NOVERFL:-1", b"NOVERFL:0 ")
-        refusals = [refused(quayrudder.smallest, header, pixels) for header, pixels in ((b"", counts), (self.header(), counts[1:].ravel()), (old, counts))]
-        self.assertEqual([refusal.number for refusal in refusals], [1, 10, 16])
-        self.assertEqual(refused(quayrudder.write, old, counts).number, 16)
-        pathlib.Path("old.sfrm").write_bytes(old)
-        self.assertEqual(refused(quayrudder.smallest, "old.sfrm", counts).file, "old.sfrm")
-        for pixels in (counts.T[:4], counts.astype(float), counts.astype("i8") - 1):
-            with self.assertRaises(ValueError):
-                quayrudder.smallest(self.header(), pixels)
 
 
 class OtherImages(unittest.TestCase):

@@ -19,9 +19,6 @@ pub const TODAY: &str = "2026-11-16";
 /// The day on which a holding kept until 2031-11-02 may go.
 pub const DUE: &str = "2031-11-03";
 
-/// Every form, in the order in which the first of the shortest is the smallest.
-pub const FORMS: [&str; 9] = ["1", "1+1", "1+2", "2", "2+1", "2+2", "4", "4+1", "4+2"];
-
 /// The refusals of what is asked for. The others say that a frame, a ledger or a holding is not what it must be.
 const ASKED_FOR: [u32; 12] = [10, 16, 17, 18, 21, 22, 24, 25, 26, 27, 31, 37];
 
@@ -265,27 +262,4 @@ pub fn only_read(image: &[u8], short: &[u8], format: &str) {
         assert!(said.contains(&hint), "{said}");
     }
     assert!(!f.has("a.held") && !f.has("out"));
-}
-
-/// What the shell says to a line in which `quayrudder` is the real command.
-fn by_shell(f: &Folder, line: &str) -> String {
-    let folder = Path::new(env!("CARGO_BIN_EXE_quayrudder")).parent().unwrap().display();
-    let path = format!("{folder}:{}", std::env::var("PATH").unwrap());
-    let ran = ran(Command::new("sh").args(["-c", line]).env("PATH", path).current_dir(f.path()).output().unwrap());
-    ran.out + &ran.err
-}
-
-/// The example in this part of the manual is what the commands say, over a frame of this count with one hot pixel.
-pub fn manual_shows(heading: &str, count: u32) {
-    let manual = fs::read_to_string(concat!(env!("CARGO_MANIFEST_DIR"), "/../docs/MANUAL.md")).unwrap();
-    let (_, section) = manual.split_once(&format!("\n### {heading}\n")).unwrap();
-    let (section, _) = section.split_once("\n## ").unwrap();
-    let example: Vec<&str> = section.lines().filter_map(|line| line.strip_prefix("    ")).collect();
-    let f = folder();
-    let mut counts = vec![count; 256 * 384];
-    counts[100 * 384 + 250] = 4_000_000;
-    f.put("lyso_0001.sfrm", wide_frame(256, 384, &counts));
-    let lines = example.iter().filter_map(|line| line.strip_prefix("$ "));
-    let said: String = lines.map(|line| format!("$ {line}\n{}", by_shell(&f, line))).collect();
-    assert_eq!(said.lines().collect::<Vec<&str>>(), example);
 }

@@ -5,8 +5,10 @@ use Rattle.layout.specs.declared.WidthAnswer.{WidthAnswer}
 use Rattle.layout.specs.declared.WidthAnswer.TheVariants as WA
 use Rattle.layout.specs.declared.EntryAnswer.{EntryAnswer}
 use Rattle.layout.specs.declared.EntryAnswer.TheVariants as EA
+use Rattle.layout.specs.declared.Underflow.{Underflow}
 use Rattle.layout.specs.declared.Underflow.TheVariants as U
-use Rattle.layout.specs.Form.{form_of, width_from, entry_from}
+use Rattle.layout.specs.declared.Form.{Form}
+use Rattle.layout.specs.Form.{width_from, entry_from}
 use Rattle.writer.specs.declared.AskedForm.{AskedForm}
 use Rattle.writer.specs.declared.AskedForm.TheVariants as A
 use Rattle.writer.specs.declared.WriteAnswer.{WriteAnswer}
@@ -26,13 +28,16 @@ abbrev pub read_result : ReadAnswer → ReadResult
 read_result (R.Frame rows columns end) = read_accepted rows columns end
 read_result (R.Refused r) = read_refused r
 
+abbrev pub form : Width → Underflow → Form
+form w u = record { width = w; underflow = u }
+
 -- underflow 0 is kind none, 1 and 2 the baseline subtracted with entries of that many bytes; any other number is no form
 abbrev pub by_entry : Width → EntryAnswer → AskedForm
-by_entry w (EA.Listed e) = A.Listed (form_of w (U.Subtracted e))
+by_entry w (EA.Listed e) = A.Listed (form w (U.Subtracted e))
 by_entry w EA.Unlisted = A.Unlisted
 
 abbrev pub as_form : Width → ℕ → AskedForm
-as_form w underflow = if eqb underflow 0 then A.Listed (form_of w U.None) else by_entry w (entry_from underflow)
+as_form w underflow = if eqb underflow 0 then A.Listed (form w U.None) else by_entry w (entry_from underflow)
 
 abbrev pub by_width : ℕ → WidthAnswer → AskedForm
 by_width underflow (WA.Listed w) = as_form w underflow

@@ -2,14 +2,18 @@
 -- Assumes nothing.
 use mathlib.Core.Path.{◌≡◌, refl, sym, ◌∙◌}
 use mathlib.Core.List.{List, [], ◌∷◌, map, reverse, reverse-cons, map-append}
-use Prim.Native.Nat.{ℕ}
-use lib.ListN.{length}
+use Prim.Native.Nat.{ℕ, ◌<◌}
+use lib.ListN.{length, get_or}
+use Rattle.layout.specs.declared.Form.{Form}
+use Rattle.writer.specs.declared.AskedForm.TheVariants as F
+use Rattle.opening.specs.declared.OpenAnswer.TheVariants.{Opened}
+use Rattle.opening.specs.Open.{open_answer}
 use Rattle.lists.specs.Bytes.{held_bytes}
 use Rattle.ledger.specs.Lines.{lines_of, lines_bytes}
 use Rattle.ledger.proofs.StandingLaws.{stack, standing-is}
 use Rattle.model.specs.Model.{Call, run, Entry, corrected, kept, Opening, empty_model, pixels_with, model_step, seen_line, seen_entry}
 use Rattle.model.specs.Ledger.{ledger_bytes, empty_ledger, ledger_run}
-use Rattle.model.specs.Run.{State, state_of, step, opening_of, opened_state, AllCounted}
+use Rattle.model.specs.Run.{State, state_of, step, opening_of, in-asked, opened_state, AllCounted}
 use Rattle.model.specs.Demand3.{Agreement, Demand3}
 use Rattle.model.proofs.Held.{held-form}
 use Rattle.model.proofs.Appending.{holds-none}
@@ -58,9 +62,20 @@ module _ (o : Opening) (t : List ℕ) (size : length t ≡ o.ledger_length) {hel
   from : (x : State) → x ≡ state_of (held_bytes o.held_length s.frame) (ledger_bytes (empty_ledger t)) 0 → (cs : List Call) → AllCounted cs → Agreement o t cs (run step cs x) (run (model_step o) cs empty_model)
   from x e cs counted = rw e (agreement cs counted)
 
-pub demand3 : Demand3
+pub demand3-opened : Demand3
 unfolding opening_of
-demand3 bytes pixels held ledger form byte opened cs counted =
+demand3-opened bytes pixels held ledger form byte opened cs counted =
     let s = start bytes pixels held ledger form byte opened in
     let o : Opening = opening_of bytes pixels form held ledger in
     from o ledger refl s (opened_state bytes pixels form held ledger) (at_first o ledger refl s) cs counted
+
+-- The same where the form was asked for. Bytes are below 256 and counts have 32 bits, as the public functions take them.
+pub demand3 : (bytes pixels held ledger : List ℕ) (form : Form) (rows columns end n : ℕ)
+    → ((i : ℕ) → get_or bytes i 0 < 256)
+    → open_answer bytes pixels (F.Listed form) (length held) ≡ Opened rows columns end n
+    → (cs : List Call)
+    → AllCounted cs
+    → (let o = opening_of bytes pixels form held ledger in
+    Agreement o ledger cs (run step cs (opened_state bytes pixels form held ledger)) (run (model_step o) cs empty_model))
+demand3 bytes pixels held ledger form rows columns end n byte opened cs counted =
+    demand3-opened bytes pixels held ledger form byte (in-asked rows columns end n opened) cs counted

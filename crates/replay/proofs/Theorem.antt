@@ -10,11 +10,12 @@ use lib.Seq.{get_or-drop}
 use Rattle.std.specs.Prelude.{if◌then◌else◌}
 use Rattle.layout.specs.declared.Form.{Form}
 use Rattle.writer.specs.declared.AskedForm.TheVariants as F
-use Rattle.opening.specs.Open.{open_held}
+use Rattle.opening.specs.declared.OpenAnswer.TheVariants.{Opened}
+use Rattle.opening.specs.Open.{open_answer, open_held}
 use Rattle.model.specs.Model.{Call, correct, keep, withdraw, amend, compact, may_purge, run, model_step, empty_model}
-use Rattle.model.specs.Run.{step, opening_of, OpenedIn, opened_state, Counted, AllCounted}
+use Rattle.model.specs.Run.{step, opening_of, OpenedIn, in-asked, opened_state, Counted, AllCounted}
 use Rattle.model.specs.Demand3.{Agreement}
-use Rattle.model.proofs.Demand3.{demand3}
+use Rattle.model.proofs.Demand3.{demand3-opened}
 use Rattle.replay.specs.Replay.{date_of, call_of, calls_from, played}
 
 -- the counts of calls in numbers of 32 bits have 32 bits
@@ -36,12 +37,23 @@ unfolding calls_from AllCounted
 all-counted zero t h = tt
 all-counted (suc n) t h = (call-counted (get_or t 0 0) (get_or t 1 0) (get_or t 2 0) (get_or t 3 0) (h 2), all-counted n (drop 4 t) (λ i. rw get_or-drop (h (4 + i))))
 
-pub replay-agrees : (bytes pixels held ledger calls : List ℕ) (form : Form) (n : ℕ)
+-- after either opening
+pub replay-agrees-opened : (bytes pixels held ledger calls : List ℕ) (form : Form) (n : ℕ)
     → ((i : ℕ) → get_or bytes i 0 < 256)
     → ((i : ℕ) → get_or calls i 0 < 4294967296)
     → OpenedIn bytes pixels held form
     → (let o = opening_of bytes pixels form held ledger in
     Agreement o ledger (calls_from n calls) (played (open_held bytes pixels (F.Listed form) held) ledger 0 calls n) (run (model_step o) (calls_from n calls) empty_model))
 unfolding played
-replay-agrees bytes pixels held ledger calls form n byte word opened =
-    demand3 bytes pixels held ledger form byte opened (calls_from n calls) (all-counted n calls word)
+replay-agrees-opened bytes pixels held ledger calls form n byte word opened =
+    demand3-opened bytes pixels held ledger form byte opened (calls_from n calls) (all-counted n calls word)
+
+-- where the form was asked for
+pub replay-agrees : (bytes pixels held ledger calls : List ℕ) (form : Form) (rows columns end length-held n : ℕ)
+    → ((i : ℕ) → get_or bytes i 0 < 256)
+    → ((i : ℕ) → get_or calls i 0 < 4294967296)
+    → open_answer bytes pixels (F.Listed form) (length held) ≡ Opened rows columns end length-held
+    → (let o = opening_of bytes pixels form held ledger in
+    Agreement o ledger (calls_from n calls) (played (open_held bytes pixels (F.Listed form) held) ledger 0 calls n) (run (model_step o) (calls_from n calls) empty_model))
+replay-agrees bytes pixels held ledger calls form rows columns end length-held n byte word opened =
+    replay-agrees-opened bytes pixels held ledger calls form n byte word (in-asked rows columns end length-held opened)
