@@ -24,7 +24,9 @@ use Rattle.ledger.proofs.Appending.{found_lines}
 use Rattle.archive.specs.Calls.{correction_line, withdrawal_line}
 use Rattle.model.specs.Model.{Call, correct, withdraw, amend, accepted, refused, Reply, Step, run, Entry, corrected, kept, Model, Opening, pixels_with, refuse, accept, corrected_by, written, model_step}
 use Rattle.model.specs.Ledger.{Ledger, ledger_bytes, ledger_after, ledger_run}
-use Rattle.model.specs.Run.{step, AllCounted, OpenedIn}
+use Rattle.opening.specs.declared.OpenAnswer.TheVariants.{Opened}
+use Rattle.opening.specs.Open.{open_answer}
+use Rattle.model.specs.Run.{step, AllCounted, OpenedIn, in-asked}
 use Rattle.model.specs.Theorems.{back_and_anew, TwoSteps, AmendIsTwo, AmendLeavesTwo}
 use Rattle.model.proofs.Held.{Given, same-frame}
 use Rattle.model.proofs.Appending.{appended_then}
@@ -124,9 +126,16 @@ module _ (o : Opening) (few : length o.pixels ≤ 2 ^ 24) (given : Given o) (c :
       rw same (two-top p k es s a)
 
 -- after every list of calls from an accepted opening
-pub amend-leaves-two : (bytes pixels held ledger : List ℕ) (form : Form) (byte : (i : ℕ) → get_or bytes i 0 < 256)
+pub amend-leaves-two-opened : (bytes pixels held ledger : List ℕ) (form : Form) (byte : (i : ℕ) → get_or bytes i 0 < 256)
     (opened : OpenedIn bytes pixels held form) (cs : List Call) (counted : AllCounted cs)
     → AmendLeavesTwo (later bytes pixels held ledger form byte opened cs counted)
-amend-leaves-two bytes pixels held ledger form byte opened cs counted =
+amend-leaves-two-opened bytes pixels held ledger form byte opened cs counted =
     by-same bytes pixels held ledger form byte opened cs counted AmendLeavesTwo
     (λ o few given f ls es s c small i l. two_from o few given c small es s i l)
+
+-- where the form was asked for
+pub amend-leaves-two : (bytes pixels held ledger : List ℕ) (form : Form) (rows columns end n : ℕ) (byte : (i : ℕ) → get_or bytes i 0 < 256)
+    (opened : open_answer bytes pixels (F.Listed form) (length held) ≡ Opened rows columns end n) (cs : List Call) (counted : AllCounted cs)
+    → AmendLeavesTwo (later bytes pixels held ledger form byte (in-asked rows columns end n opened) cs counted)
+amend-leaves-two bytes pixels held ledger form rows columns end n byte opened cs counted =
+    amend-leaves-two-opened bytes pixels held ledger form byte (in-asked rows columns end n opened) cs counted

@@ -37,7 +37,9 @@ use Rattle.why.proofs.Deciding.{named_in, found-decides, AllWithdraw, number-fal
 use Rattle.why.proofs.Answers.{Names, day-tests, pixel-tests, day-by, pixel-by, day-named, pixel-named}
 use Rattle.model.specs.Model.{Call, withdraw, accepted, run, Entry, corrected, kept, Opening, pixels_with}
 use Rattle.model.specs.Ledger.{Ledger, ledger_bytes}
-use Rattle.model.specs.Run.{State, step, opening_of, AllCounted, OpenedIn}
+use Rattle.opening.specs.declared.OpenAnswer.TheVariants.{Opened}
+use Rattle.opening.specs.Open.{open_answer}
+use Rattle.model.specs.Run.{State, step, opening_of, AllCounted, OpenedIn, in-asked}
 use Rattle.model.specs.Theorems.{lines_at, withdrawals, AllAccepted, DayEarlier, PixelEarlier, day_unnumbered, pixel_unnumbered, ReasonsUnobservable, count_said, CountsExplained}
 use Rattle.model.proofs.Held.{Given, held-pixels}
 use Rattle.model.proofs.Accepted.{taken, withdrawal-sized, withdrawal-writable, read-as, line-more, last-top}
@@ -180,9 +182,16 @@ module _ (o : Opening) (few : length o.pixels ≤ 2 ^ 24) (given : Given o) wher
       (ap (λ (c : ℕ). c ∷ []) (set-by o.pixels p h es))
 
 -- after every list of calls from an accepted opening
-pub counts-explained : (bytes pixels held ledger : List ℕ) (form : Form) (byte : (i : ℕ) → get_or bytes i 0 < 256)
+pub counts-explained-opened : (bytes pixels held ledger : List ℕ) (form : Form) (byte : (i : ℕ) → get_or bytes i 0 < 256)
     (opened : OpenedIn bytes pixels held form) (cs : List Call) (counted : AllCounted cs)
     → CountsExplained (opening_of bytes pixels form held ledger).pixels (later bytes pixels held ledger form byte opened cs counted)
-counts-explained bytes pixels held ledger form byte opened cs counted =
+counts-explained-opened bytes pixels held ledger form byte opened cs counted =
     by-opening bytes pixels held ledger form byte opened cs counted (λ o s. CountsExplained o.pixels s)
     (λ o few given f ls es same. explained o few given same)
+
+-- where the form was asked for
+pub counts-explained : (bytes pixels held ledger : List ℕ) (form : Form) (rows columns end n : ℕ) (byte : (i : ℕ) → get_or bytes i 0 < 256)
+    (opened : open_answer bytes pixels (F.Listed form) (length held) ≡ Opened rows columns end n) (cs : List Call) (counted : AllCounted cs)
+    → CountsExplained (opening_of bytes pixels form held ledger).pixels (later bytes pixels held ledger form byte (in-asked rows columns end n opened) cs counted)
+counts-explained bytes pixels held ledger form rows columns end n byte opened cs counted =
+    counts-explained-opened bytes pixels held ledger form byte (in-asked rows columns end n opened) cs counted

@@ -18,7 +18,9 @@ use Rattle.writer.specs.Writer.{frame, refused, base, underflow_too_large, made_
 use Rattle.readback.specs.Written.{header_bytes, base_of, base_number}
 use Rattle.readback.proofs.Facts as facts
 use Rattle.model.specs.Model.{Entry, Opening, pixels_with, written}
-use Rattle.model.specs.Run.{opening_of, OpenedIn}
+use Rattle.opening.specs.declared.OpenAnswer.TheVariants.{Opened}
+use Rattle.opening.specs.Open.{open_answer}
+use Rattle.model.specs.Run.{opening_of, OpenedIn, in-asked}
 use Rattle.model.proofs.Held.{Given}
 use Rattle.model.proofs.Agree.{length-with}
 use Rattle.model.proofs.Opened.{Start, start, answer-is}
@@ -57,12 +59,21 @@ module _ (o : Opening) {held : List ℕ} (s : Start o held) where
       (with-base o.held_length (frame_bytes (header_bytes o.header g.header) o.form (stored_for o.form baseline vs)) (underflow_too_large o.form.underflow (stored_for o.form baseline vs).under))
 
 -- what the model's correction asks the writer, after an accepted opening and with any stack
-pub only-17-18 : (bytes pixels held ledger : List ℕ) (form : Form)
+pub only-17-18-opened : (bytes pixels held ledger : List ℕ) (form : Form)
     → ((i : ℕ) → get_or bytes i 0 < 256)
     → OpenedIn bytes pixels held form
     → (es : List Entry) (pixel count : ℕ)
     → (let o = opening_of bytes pixels form held ledger in Judged (written o (set (pixels_with o.pixels es) pixel count)))
-only-17-18 bytes pixels held ledger form byte opened es pixel count =
+only-17-18-opened bytes pixels held ledger form byte opened es pixel count =
     let o : Opening = opening_of bytes pixels form held ledger in
     judged o (start bytes pixels held ledger form byte opened) (set (pixels_with o.pixels es) pixel count)
     (length-set (pixels_with o.pixels es) pixel count ∙ length-with o.pixels es)
+
+-- where the form was asked for
+pub only-17-18 : (bytes pixels held ledger : List ℕ) (form : Form) (rows columns end n : ℕ)
+    → ((i : ℕ) → get_or bytes i 0 < 256)
+    → open_answer bytes pixels (F.Listed form) (length held) ≡ Opened rows columns end n
+    → (es : List Entry) (pixel count : ℕ)
+    → (let o = opening_of bytes pixels form held ledger in Judged (written o (set (pixels_with o.pixels es) pixel count)))
+only-17-18 bytes pixels held ledger form rows columns end n byte opened es pixel count =
+    only-17-18-opened bytes pixels held ledger form byte (in-asked rows columns end n opened) es pixel count
