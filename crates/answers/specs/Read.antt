@@ -1,7 +1,8 @@
 -- The C interface's answer to a reading: document 01's numbers and values.
-use Rattle.std.specs.Prelude.{ℕ}
+use Rattle.std.specs.Prelude.{ℕ, Result, Ok, Err}
 use Rattle.refusal.specs.declared.Refusal.{Refusal}
 use Rattle.refusal.specs.Codes.{code_of}
+use Rattle.layout.specs.declared.Frame.{Frame}
 use Rattle.answers.specs.declared.ReadResult.{ReadResult}
 
 -- rows, columns, and the place where the file's contents end
@@ -19,3 +20,8 @@ read_refused r = record {
   columns = 0;
   end = 0;
 }
+
+-- what reading a file answers, whatever its format
+abbrev pub read_result : Result Frame Refusal → ReadResult
+read_result (Ok f) = read_accepted f.rows f.columns f.end
+read_result (Err r) = read_refused r

@@ -2,13 +2,14 @@
 #![tactic(auto)]
 
 ghost use Rattle.std.specs.Prelude.{◌≡◌};
-ghost use Rattle.answers.specs.Read.{read_refused, read_accepted};
+ghost use Rattle.answers.specs.Read.{read_refused, read_accepted, read_result};
 
-use refusal::Refusal;
+use layout::Frame;
+use refusal::{Code, Refusal};
 
 // refusal is 0 where the file is accepted. Every field that a case does not name is 0.
 #[repr(C)]
-#[derive(Clone, Copy)]
+#[derive(Clone, Copy, Default)]
 pub struct ReadResult {
     pub refusal: u32,
     pub place: u32,
@@ -22,25 +23,30 @@ pub fn read_accepted(rows: u32, columns: u32, end: u64) -> ReadResult
     ensures { result ≡ read_accepted rows columns end }
 {
     ReadResult {
-        refusal: 0,
-        place: 0,
-        column: 0,
         rows,
         columns,
         end,
+        ..ReadResult::default()
     }
 }
 
 pub fn read_refused(r: Refusal) -> ReadResult
     ensures { result ≡ read_refused r }
 {
-    let code = refusal::code_of(r);
+    let Code { number, place } = Code::from(r);
     ReadResult {
-        refusal: code.number,
-        place: code.place,
-        column: 0,
-        rows: 0,
-        columns: 0,
-        end: 0,
+        refusal: number,
+        place,
+        ..ReadResult::default()
+    }
+}
+
+// What reading a file answers.
+pub fn read_result(answer: Result<Frame, Refusal>) -> ReadResult
+    ensures { result ≡ read_result answer }
+{
+    match answer {
+        Ok(Frame { rows, columns, end }) => read_accepted(rows, columns, end),
+        Err(r) => read_refused(r),
     }
 }

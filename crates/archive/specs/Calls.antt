@@ -1,15 +1,12 @@
 -- Document 01, "The ledger" and "Numbers given back", and document 02, A6: correction, withdrawal and amending, over the held buffer and the ledger.
-use Rattle.std.specs.Prelude.{ℕ, ◌+◌, not, List, [], ◌∷◌, length, get_or, eqb, leb, ltb, if◌then◌else◌}
+use Rattle.ledger.specs.declared.Found.{Found}
+use Rattle.std.specs.Prelude.{ℕ, ◌+◌, not, List, [], ◌∷◌, length, get_or, eqb, leb, ltb, if◌then◌else◌, Err, Ok, Result, None, Option, Some}
 use Rattle.refusal.specs.declared.Refusal.{Refusal}
 use Rattle.refusal.specs.declared.Refusal.TheVariants as R
 use Rattle.calendar.specs.declared.Date.{Date}
 use Rattle.ledger.specs.declared.Kind.{Kind}
 use Rattle.ledger.specs.declared.Kind.TheVariants.{Correction, Keep, Withdrawal}
 use Rattle.ledger.specs.declared.Line.{Line}
-use Rattle.ledger.specs.declared.Found.{Found}
-use Rattle.ledger.specs.declared.Found.TheVariants.{At, Nothing}
-use Rattle.ledger.specs.declared.LedgerAnswer.{LedgerAnswer}
-use Rattle.ledger.specs.declared.LedgerAnswer.TheVariants as L
 use Rattle.ledger.specs.Lines.{lines_of}
 use Rattle.ledger.specs.Standing.{last_standing, any_line}
 use Rattle.ledger.specs.Ledger.{ledger_malformed, ledger_full, with_line}
@@ -20,11 +17,11 @@ use Rattle.replacement.specs.Replace.{changed_frame}
 
 -- what a call answers, with the held buffer and the ledger after it
 pub record Outcome : Type 0 where
-  pub answer : LedgerAnswer
+  pub answer : Result ℕ Refusal
   pub held : List ℕ
   pub ledger : List ℕ
 
-abbrev pub outcome : LedgerAnswer → List ℕ → List ℕ → Outcome
+abbrev pub outcome : Result ℕ Refusal → List ℕ → List ℕ → Outcome
 outcome a h l = record { answer = a; held = h; ledger = l }
 
 abbrev pub no_date : Date
@@ -45,13 +42,13 @@ with_lines t lines (l ∷ ls) = with_lines (with_line t lines l) (lines + 1) ls
 module _ (held ledger : List ℕ) (lines : ℕ) where
   -- a refusal changes no byte
   abbrev pub refuse : Refusal → Outcome
-  refuse r = outcome (L.Refused r) held ledger
+  refuse r = outcome (Err r) held ledger
 
   -- the held buffer becomes a frame, and lines are appended: 17, 18
   abbrev pub held_as : List Line → Made → Outcome
   held_as added (frame f) =
       if ltb (length held) (length f) then refuse R.OutputShort else
-      outcome (L.Accepted (lines + length added)) (held_bytes (length held) f) (with_lines ledger lines added)
+      outcome (Ok (lines + length added)) (held_bytes (length held) f) (with_lines ledger lines added)
   held_as added (refused r) = refuse r
 
   -- the frame held, with another count in one pixel
@@ -79,7 +76,7 @@ module _ (held ledger : List ℕ) (lines : ℕ) where
   abbrev pub keep_back : Outcome
   keep_back =
       if ledger_full ledger lines then refuse R.LedgerFull else
-      outcome (L.Accepted (lines + 1)) held (with_line ledger lines withdrawal_line)
+      outcome (Ok (lines + 1)) held (with_line ledger lines withdrawal_line)
 
   abbrev pub line_back : Kind → Line → Outcome
   line_back Correction l = correction_back l
@@ -87,9 +84,9 @@ module _ (held ledger : List ℕ) (lines : ℕ) where
   line_back Withdrawal l = refuse R.NothingStands
 
   -- 22: nothing stands
-  abbrev pub last_back : Found → Outcome
-  last_back Nothing = refuse R.NothingStands
-  last_back (At index l) = line_back l.kind l
+  abbrev pub last_back : Option Found → Outcome
+  last_back None = refuse R.NothingStands
+  last_back (Some fd) = line_back fd.line.kind fd.line
 
   -- withdrawal: 19, 20, then by the last standing line
   unfoldable pub withdraw_outcome : Outcome
@@ -113,9 +110,9 @@ module _ (held ledger : List ℕ) (lines : ℕ) where
   line_amended count Keep l = refuse R.LastIsKeep
   line_amended count Withdrawal l = refuse R.NothingStands
 
-  abbrev pub last_amended : ℕ → Found → Outcome
-  last_amended count Nothing = refuse R.NothingStands
-  last_amended count (At index l) = line_amended count l.kind l
+  abbrev pub last_amended : ℕ → Option Found → Outcome
+  last_amended count None = refuse R.NothingStands
+  last_amended count (Some fd) = line_amended count fd.line.kind fd.line
 
   -- amending: 19, 20, then by the last standing line
   unfoldable pub amend_outcome : ℕ → Outcome

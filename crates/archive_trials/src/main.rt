@@ -10,13 +10,11 @@ ghost use Rattle.std.specs.Prelude.{◌≤◌, length};
 
 use calendar::Date;
 use console::Output;
-use layout::{EntryAnswer, Form, Image, Underflow, Width, WidthAnswer};
-use ledger::{LedgerAnswer, PurgeAnswer};
-use numeral::Number;
-use opening::OpenAnswer;
+use layout::{Form, Image, Underflow, Width};
+use opening::Opened;
+use refusal::Refusal;
 use std::io;
 use std::io::Write;
-use writer::{AskedForm, WriteAnswer};
 
 // A call: 0 correction, 1 keep entry, 2 withdrawal, 3 purge question. One beyond is of a pixel 4294967296 higher.
 #[derive(Clone, Copy)]
@@ -52,7 +50,7 @@ struct Given {
 // What a row says of its calls.
 #[derive(Clone, Copy)]
 struct Setting {
-    pub asked: AskedForm,
+    pub asked: Option<Form>,
     pub baseline: u32,
     pub seed: u64,
     pub calls: usize,
@@ -111,8 +109,8 @@ fn cell(row: &[u8], k: usize) -> &[u8] {
 // The number of a cell, 0 where there is none.
 fn value(text: &[u8]) -> u32 {
     match numeral::number_of(text) {
-        Number::Value(n) => n,
-        Number::NotANumber => 0,
+        Some(n) => n,
+        None => 0,
     }
 }
 
@@ -162,26 +160,26 @@ fn put_sizes(buffer: &mut [u8], rows: &[u8], columns: &[u8], baseline: &[u8]) {
 }
 
 // The form of a pixel width and an underflow width, where 0 asks for kind none.
-fn as_form(width: Width, underflow: u32) -> AskedForm {
+fn as_form(width: Width, underflow: u32) -> Option<Form> {
     if underflow == 0 {
-        return AskedForm::Listed(Form {
+        return Some(Form {
             width,
             underflow: Underflow::None,
         });
     }
     match layout::entry_from(underflow) {
-        EntryAnswer::Listed(e) => AskedForm::Listed(Form {
+        Some(e) => Some(Form {
             width,
             underflow: Underflow::Subtracted(e),
         }),
-        EntryAnswer::Unlisted => AskedForm::Unlisted,
+        None => None,
     }
 }
 
-fn asked_form(width: u32, underflow: u32) -> AskedForm {
+fn asked_form(width: u32, underflow: u32) -> Option<Form> {
     match layout::width_from(width) {
-        WidthAnswer::Listed(w) => as_form(w, underflow),
-        WidthAnswer::Unlisted => AskedForm::Unlisted,
+        Some(w) => as_form(w, underflow),
+        None => None,
     }
 }
 
@@ -360,23 +358,23 @@ fn full_pixel(c: Call) -> u64 {
     }
 }
 
-fn ledger_given(answer: LedgerAnswer, before: u64) -> Given {
+fn ledger_given(answer: Result<u64, Refusal>, before: u64) -> Given {
     match answer {
-        LedgerAnswer::Accepted { lines } => Given { number: 0, lines },
-        LedgerAnswer::Refused(r) => Given {
+        Ok(lines) => Given { number: 0, lines },
+        Err(r) => Given {
             number: refusal::number_of(r),
             lines: before,
         },
     }
 }
 
-fn purge_given(answer: PurgeAnswer, before: u64) -> Given {
+fn purge_given(answer: Result<(), Refusal>, before: u64) -> Given {
     match answer {
-        PurgeAnswer::Allowed => Given {
+        Ok(()) => Given {
             number: 0,
             lines: before,
         },
-        PurgeAnswer::Refused(r) => Given {
+        Err(r) => Given {
             number: refusal::number_of(r),
             lines: before,
         },
@@ -474,10 +472,10 @@ fn correct_all(pixels: &mut [u32], stack: &[u32], top: usize) {
     }
 }
 
-fn write_number(answer: WriteAnswer) -> u32 {
+fn write_number(answer: Result<u64, Refusal>) -> u32 {
     match answer {
-        WriteAnswer::Written { length: _ } => 0,
-        WriteAnswer::Refused(r) => refusal::number_of(r),
+        Ok(_) => 0,
+        Err(r) => refusal::number_of(r),
     }
 }
 
@@ -486,7 +484,7 @@ fn expect_correction(
     c: Call,
     frame: &[u8],
     opened: &[u32],
-    asked: AskedForm,
+    asked: Option<Form>,
     held: &mut [u8],
     ledger: &mut [u8],
     stack: &mut [u32],
@@ -531,7 +529,7 @@ fn expect_keep(c: Call, ledger: &mut [u8], stack: &mut [u32], model: Model) -> E
 fn expect_withdrawal(
     frame: &[u8],
     opened: &[u32],
-    asked: AskedForm,
+    asked: Option<Form>,
     held: &mut [u8],
     ledger: &mut [u8],
     stack: &[u32],
@@ -584,7 +582,7 @@ fn expect(
     c: Call,
     frame: &[u8],
     opened: &[u32],
-    asked: AskedForm,
+    asked: Option<Form>,
     held: &mut [u8],
     ledger: &mut [u8],
     stack: &mut [u32],
@@ -645,7 +643,7 @@ fn turn(
     c: Call,
     frame: &[u8],
     opened: &[u32],
-    asked: AskedForm,
+    asked: Option<Form>,
     held: &mut [u8],
     ledger: &mut [u8],
     model_held: &mut [u8],
@@ -872,7 +870,7 @@ fn add_all(totals: &mut [u32], tally: &[u32]) {
 }
 
 // The row's numbers for its calls.
-fn calls_of(row: &[u8], asked: AskedForm) -> Setting {
+fn calls_of(row: &[u8], asked: Option<Form>) -> Setting {
     Setting {
         asked,
         baseline: value(cell(row, 2)),
@@ -886,7 +884,7 @@ fn finish(
     row: &[u8],
     frame: &[u8],
     opened: &[u32],
-    asked: AskedForm,
+    asked: Option<Form>,
     held: &mut [u8],
     ledger: &mut [u8],
     model_held: &mut [u8],
@@ -920,7 +918,7 @@ fn play_on(
     row: &[u8],
     frame: &[u8],
     opened: &[u32],
-    asked: AskedForm,
+    asked: Option<Form>,
     held: &mut [u8],
     ledger: &mut [u8],
     model_held: &mut [u8],
@@ -963,7 +961,7 @@ fn play_row(
     row: &[u8],
     frame: &[u8],
     opened: &[u32],
-    asked: AskedForm,
+    asked: Option<Form>,
     held: &mut [u8],
     model_held: &mut [u8],
     totals: &mut [u32],
@@ -989,30 +987,24 @@ fn play_row(
 }
 
 // The bytes of a written frame, at most 8192; 0 where there is none.
-fn written(answer: WriteAnswer) -> usize
+fn written(answer: Result<u64, Refusal>) -> usize
     ensures { result ≤ 8192 }
 {
     match answer {
-        WriteAnswer::Written { length } => least(length as usize, 8192),
-        WriteAnswer::Refused(_) => 0,
+        Ok(length) => least(length as usize, 8192),
+        Err(_) => 0,
     }
 }
 
-fn is_opened(answer: OpenAnswer, n: usize) -> bool {
+fn is_opened(answer: Result<Opened, Refusal>, n: usize) -> bool {
     match answer {
-        OpenAnswer::Opened {
-            rows: _,
-            columns: _,
-            end: _,
-            length,
-        } => length == n as u64,
-        OpenAnswer::NotRead(_) => false,
-        OpenAnswer::NotWritten {
-            rows: _,
-            columns: _,
-            end: _,
-            refusal: _,
-        } => false,
+        Ok(
+            Opened {
+                held: Ok(length),
+                ..
+            },
+        ) => length == n as u64,
+        _ => false,
     }
 }
 
@@ -1020,7 +1012,7 @@ fn is_opened(answer: OpenAnswer, n: usize) -> bool {
 fn opens(
     frame: &[u8],
     pixels: &[u32],
-    asked: AskedForm,
+    asked: Option<Form>,
     opened: &mut [u32],
     held: &mut [u8],
     model_held: &mut [u8],
@@ -1035,7 +1027,7 @@ fn open_row(
     row: &[u8],
     frame: &[u8],
     pixels: &[u32],
-    asked: AskedForm,
+    asked: Option<Form>,
     opened: &mut [u32],
     held: &mut [u8],
     model_held: &mut [u8],
@@ -1060,7 +1052,7 @@ fn hold_row(
     row: &[u8],
     frame: &[u8],
     pixels: &[u32],
-    asked: AskedForm,
+    asked: Option<Form>,
     totals: &mut [u32],
 ) -> io::Result<()> {
     let n = least(pixels.len(), 24);

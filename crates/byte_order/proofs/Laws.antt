@@ -6,11 +6,12 @@ use mathlib.Core.List.{List, [], ◌∷◌}
 use Prim.Native.Nat.{ℕ, zero, suc, ◌+◌, ◌*◌, ◌-◌, ◌/◌, ◌%◌, ◌≤◌, ◌<◌}
 use native.Mathlib.Nat.{add-zero, le_of_suc-le-suc, not-suc-le-zero, suc-mul, div-lt_iff_lt-mul}
 use native.Mathlib.Omega.{arith}
-use lib.ListN.{length, take, drop, get_or, length-take, length-drop}
+use lib.ListN.{length, take, drop, get_or, length-take}
 use lib.Seq.{drop-drop, take_all, take-take, get_or-drop}
 use lib.Dec.{leb}
 use borrow.Author.Tests.{le-leb, lt-leb, leb-true, leb-false}
 use Rattle.std.specs.Prelude.{if◌then◌else◌}
+use Rattle.std.specs.Int.{w16, w32, from_le_bytes, swap_bytes}
 use Rattle.lists.specs.Bytes.{little, big_from, big, chunked}
 use Rattle.lists.proofs.Parts.{drop-take}
 use Rattle.lists.proofs.Chunks.{chunked-length, chunked-at, chunked-part, chunked-front}
@@ -66,14 +67,28 @@ number-at-take o w k m t h = go (leb (suc k * w) (length t)) refl
         rw (q, le-leb _ _ l, drop-take (k * w) m t, number-take o w (m - k * w) (drop (k * w) t) (omega (arith, suc-mul k w)))
     go false q = rw (take_all m t (omega (arith, leb-false (suc k * w) (length t) q)))
 
--- two bytes in either order, and the one order from the other
-pub little-two : (at : ℕ) (t : List ℕ) → get_or t at 0 + 256 * get_or t (at + 1) 0 ≡ little 2 (drop at t)
+-- the bytes from `at` on, least significant first
+pub little-two : (at : ℕ) (t : List ℕ) → from_le_bytes w16 (get_or t at 0 ∷ get_or t (at + 1) 0 ∷ []) ≡ little 2 (drop at t)
 unfolding little
 little-two at t =
     let a : get_or (drop at t) 0 0 ≡ get_or t at 0 = rw (get_or-drop, add-zero) in
     let b : get_or (drop 1 (drop at t)) 0 0 ≡ get_or t (at + 1) 0 = rw (drop-drop, get_or-drop, add-zero) in
     omega arith
 
+little-digits : (u : List ℕ) → little 4 u ≡ get_or u 0 0 + 256 * (get_or u 1 0 + 256 * (get_or u 2 0 + 256 * get_or u 3 0))
+unfolding little
+little-digits u =
+    let b : get_or (drop 1 u) 0 0 ≡ get_or u 1 0 = rw get_or-drop in
+    let c : get_or (drop 1 (drop 1 u)) 0 0 ≡ get_or u 2 0 = rw (drop-drop, get_or-drop) in
+    let d : get_or (drop 1 (drop 1 (drop 1 u))) 0 0 ≡ get_or u 3 0 = rw (drop-drop, drop-drop, get_or-drop) in
+    omega arith
+
+pub little-four : (at : ℕ) (t : List ℕ) → from_le_bytes w32 (get_or t at 0 ∷ get_or t (at + 1) 0 ∷ get_or t (at + 2) 0 ∷ get_or t (at + 3) 0 ∷ []) ≡ little 4 (drop at t)
+little-four at t =
+    let a : get_or (drop at t) 0 0 ≡ get_or t at 0 = rw (get_or-drop, add-zero) in
+    omega (arith, little-digits (drop at t), get_or-drop at t 1 0, get_or-drop at t 2 0, get_or-drop at t 3 0)
+
+-- two bytes in either order, and the one order from the other
 two : (u : List ℕ) → 2 ≤ length u → big (take 2 u) ≡ get_or u 0 0 * 256 + get_or u 1 0
 unfolding big_from
 two [] h = absurd (not-suc-le-zero h)
@@ -85,17 +100,6 @@ unfolding little
 big-exchanged u h p q =
     let b : get_or (drop 1 u) 0 0 ≡ get_or u 1 0 = rw get_or-drop in
     omega (arith, two u h)
-
--- two numbers of 16 bits in one of 32
-pub little-four : (at : ℕ) (t : List ℕ) {a b : ℕ} → a ≡ little 2 (drop at t) → b ≡ little 2 (drop (at + 2) t) → a + 65536 * b ≡ little 4 (drop at t)
-unfolding little
-little-four at t p q = rw (p, q, ← drop-drop 2 at t) (go (drop at t))
-  where
-    go : (u : List ℕ) → little 2 u + 65536 * little 2 (drop 2 u) ≡ little 4 u
-    go u =
-        let x = ap (λ (l : List ℕ). get_or l 0 0) (drop-drop 1 1 u) in
-        let y = ap (λ (l : List ℕ). get_or (drop 1 l) 0 0) (drop-drop 1 1 u) in
-        omega (arith, x, y)
 
 -- four bytes in either order, and the one order from the other
 four : (u : List ℕ) → 4 ≤ length u → big (take 4 u) ≡ get_or u 0 0 * 16777216 + get_or u 1 0 * 65536 + get_or u 2 0 * 256 + get_or u 3 0
@@ -109,28 +113,19 @@ four (a ∷ b ∷ c ∷ d ∷ u) h = omega arith
 digit : (a m : ℕ) → a < 256 → (a + 256 * m) % 256 ≡ a
 digit a m p = omega arith
 
-digits : (a b c d : ℕ) {v : ℕ} → a < 256 → b < 256 → c < 256 → v ≡ a + 256 * (b + 256 * (c + 256 * d))
-    → a * 16777216 + b * 65536 + c * 256 + d ≡ v % 256 * 16777216 + v / 256 % 256 * 65536 + v / 65536 % 256 * 256 + v / 16777216
-digits a b c d {v} p q r e =
+digits : (a b c d : ℕ) {v : ℕ} → a < 256 → b < 256 → c < 256 → d < 256 → v ≡ a + 256 * (b + 256 * (c + 256 * d))
+    → a * 16777216 + b * 65536 + c * 256 + d ≡ swap_bytes w32 v
+digits a b c d {v} p q r s e =
     let m : v / 256 ≡ b + 256 * (c + 256 * d) = omega arith in
     let n : v / 65536 ≡ c + 256 * d = omega arith in
     let w : v % 256 ≡ a = omega arith in
     let x : v / 256 % 256 ≡ b = rw m (digit b (c + 256 * d) q) in
     let y : v / 65536 % 256 ≡ c = rw n (digit c d r) in
-    let z : v / 16777216 ≡ d = omega arith in
-    rw (w, x, y, z)
-
-little-digits : (u : List ℕ) → little 4 u ≡ get_or u 0 0 + 256 * (get_or u 1 0 + 256 * (get_or u 2 0 + 256 * get_or u 3 0))
-unfolding little
-little-digits u =
-    let b : get_or (drop 1 u) 0 0 ≡ get_or u 1 0 = rw get_or-drop in
-    let c : get_or (drop 1 (drop 1 u)) 0 0 ≡ get_or u 2 0 = rw (drop-drop, get_or-drop) in
-    let d : get_or (drop 1 (drop 1 (drop 1 u))) 0 0 ≡ get_or u 3 0 = rw (drop-drop, drop-drop, get_or-drop) in
+    let z : v / 16777216 % 256 ≡ d = omega arith in
     omega arith
 
-pub big-reversed : (u : List ℕ) → 4 ≤ length u → ((i : ℕ) → get_or u i 0 < 256)
-    → big (take 4 u) ≡ little 4 u % 256 * 16777216 + little 4 u / 256 % 256 * 65536 + little 4 u / 65536 % 256 * 256 + little 4 u / 16777216
-big-reversed u h b = four u h ∙ digits (get_or u 0 0) (get_or u 1 0) (get_or u 2 0) (get_or u 3 0) (b 0) (b 1) (b 2) (little-digits u)
+pub big-swapped : (u : List ℕ) → 4 ≤ length u → ((i : ℕ) → get_or u i 0 < 256) → big (take 4 u) ≡ swap_bytes w32 (little 4 u)
+big-swapped u h b = four u h ∙ digits (get_or u 0 0) (get_or u 1 0) (get_or u 2 0) (get_or u 3 0) (b 0) (b 1) (b 2) (b 3) (little-digits u)
 
 -- a number of one byte is the same in both orders
 one_byte : (t : List ℕ) → number O.Big 1 t ≡ number O.Little 1 t

@@ -1,11 +1,13 @@
 // Numbers in either byte order.
 #![tactic(auto)]
 
-ghost use Rattle.std.specs.Prelude.{◌≡◌, ◌+◌, ◌*◌, ◌/◌, ◌%◌, ◌<◌, ◌≤◌, length, drop, leb, if◌then◌else◌};
+ghost use Rattle.std.specs.Prelude.{◌≡◌, ℕ, ◌+◌, ◌*◌, ◌/◌, ◌%◌, ◌<◌, ◌≤◌, length, drop, leb, if◌then◌else◌};
 ghost use Rattle.lists.specs.Bytes.{little};
 ghost use Rattle.lists.specs.Parts.{with_part};
 ghost use Rattle.layout.specs.Form.{width_bytes};
-ghost use Rattle.byte_order.specs.Numbers.{numbers, number_at};
+ghost use Rattle.byte_order.specs.declared.ByteOrder.TheVariants.{Big, Little};
+ghost use Rattle.byte_order.specs.Numbers.{number, numbers, number_at};
+ghost use Rattle.std.proofs.Common.{rules};
 
 use layout::Width;
 
@@ -16,38 +18,85 @@ pub enum ByteOrder {
     Big,
 }
 
-// The 16-bit number at `at`, least significant byte first.
-fn little16(t: &[u8], at: usize) -> u32
-    requires { at + 2 ≤ length t.now }
-    ensures value { result ≡ little 2 (drop at t.now) }
-    ensures upper_bound { result < 65536 }
-{
-    let next = at + 1;
-    t[at] as u32 + 256 * (t[next] as u32)
-}
-
 // The two bytes of a 16-bit number exchanged. By a product, since the compiler makes no vector instructions of a sum of single bytes.
-fn exchanged(v: u32) -> u32
-    requires { v < 65536 }
+fn exchanged(v: u16) -> u32
     ensures { result ≡ v % 256 * 256 + v / 256 }
 {
-    v * 65537 / 256 % 65536
+    v as u32 * 65537 / 256 % 65536
 }
 
-// The 32-bit number at `at`, least significant byte first. Without a loop, so that it is a single load.
+// The 32-bit number at `at`, least significant byte first: a single load.
 fn little32(t: &[u8], at: usize) -> u32
     requires { at + 4 ≤ length t.now }
     ensures { result ≡ little 4 (drop at t.now) }
 {
-    let next = at + 2;
-    little16(t, at) + 65536 * little16(t, next)
+    u32::from_le_bytes([t[at], t[at + 1], t[at + 2], t[at + 3]])
 }
 
-// The four bytes of a number in the opposite order. The compiler makes one exchange of it, and vector instructions in a loop.
-fn reversed(v: u32) -> u32
-    ensures { result ≡ v % 256 * 16777216 + v / 256 % 256 * 65536 + v / 65536 % 256 * 256 + v / 16777216 }
-{
-    v % 256 * 16777216 + v / 256 % 256 * 65536 + v / 65536 % 256 * 256 + v / 16777216
+// How numbers lie in their bytes: the order, how many bytes, and the number at `at`.
+trait Stored {
+    ghost use Rattle.byte_order.specs.declared.ByteOrder.{ByteOrder};
+
+    ghost order: { ByteOrder };
+
+    ghost BYTES: { ℕ };
+
+    const BYTES: usize;
+
+    fn read(t: &[u8], at: usize) -> u32
+        requires { at + BYTES ≤ length t.now }
+        ensures { result ≡ number order BYTES (drop at t.now) };
+
+    ghost few: { BYTES ≤ 4 };
+}
+
+struct Big2;
+
+struct Little4;
+
+struct Big4;
+
+impl Stored for Big2 {
+    ghost order = { Big };
+
+    ghost BYTES = { 2 };
+
+    const BYTES: usize = 2;
+
+    fn read(t: &[u8], at: usize) -> u32 {
+        exchanged(u16::from_le_bytes([t[at], t[at + 1]]))
+    }
+
+    ghost few = { Prim.search rules };
+}
+
+impl Stored for Little4 {
+    ghost order = { Little };
+
+    ghost BYTES = { 4 };
+
+    const BYTES: usize = 4;
+
+    fn read(t: &[u8], at: usize) -> u32 {
+        little32(t, at)
+    }
+
+    ghost few = { Prim.search rules };
+}
+
+// The compiler makes one exchange of the bytes, and vector instructions in a loop.
+impl Stored for Big4 {
+    ghost order = { Big };
+
+    ghost BYTES = { 4 };
+
+    const BYTES: usize = 4;
+
+    fn read(t: &[u8], at: usize) -> u32 {
+        little32(t, at).swap_bytes()
+    }
+
+    ghost few = { Prim.search rules };
 }
 
 // 32-bit number k of t, and 0 where t ends before it does.
@@ -59,80 +108,25 @@ pub fn number_at(t: &[u8], order: ByteOrder, k: usize) -> u32
     }
     let at = k * 4;
     match order {
-        ByteOrder::Little => little32(t, at),
-        ByteOrder::Big => reversed(little32(t, at)),
+        ByteOrder::Little => Little4::read(t, at),
+        ByteOrder::Big => Big4::read(t, at),
     }
 }
 
-fn load_big16(t: &[u8], out: &mut [u32]) -> bool
-    ensures value { result ≡ leb (length out.old * 2) (length t.now) }
-    ensures out_after { out.new ≡ if◌then◌else◌ (leb (length out.old * 2) (length t.now)) (numbers ByteOrder.Big 2 (length out.old) t.now) out.old }
+// As many numbers as out has places, if t has them.
+fn load_stored<S: Stored>(t: &[u8], out: &mut [u32]) -> bool
+    ensures value { result ≡ leb (length out.old * S.BYTES) (length t.now) }
+    ensures out_after { out.new ≡ if◌then◌else◌ (leb (length out.old * S.BYTES) (length t.now)) (numbers S.order S.BYTES (length out.old) t.now) out.old }
 {
-    if t.len() < out.len() * 2 {
+    if t.len() < out.len() * S::BYTES {
         return false;
     }
     let mut at = 0;
-    let mut i = 0;
-    while i < out.len() {
-        out[i] = exchanged(little16(t, at));
-        at += 2;
-        i += 1;
+    for place in out.iter_mut() {
+        *place = S::read(t, at);
+        at += S::BYTES;
     }
     true
-}
-
-fn load_big32(t: &[u8], out: &mut [u32]) -> bool
-    ensures value { result ≡ leb (length out.old * 4) (length t.now) }
-    ensures out_after { out.new ≡ if◌then◌else◌ (leb (length out.old * 4) (length t.now)) (numbers ByteOrder.Big 4 (length out.old) t.now) out.old }
-{
-    if t.len() < out.len() * 4 {
-        return false;
-    }
-    let mut at = 0;
-    let mut i = 0;
-    while i < out.len() {
-        out[i] = reversed(little32(t, at));
-        at += 4;
-        i += 1;
-    }
-    true
-}
-
-fn load_little32(t: &[u8], out: &mut [u32]) -> bool
-    ensures value { result ≡ leb (length out.old * 4) (length t.now) }
-    ensures out_after { out.new ≡ if◌then◌else◌ (leb (length out.old * 4) (length t.now)) (numbers ByteOrder.Little 4 (length out.old) t.now) out.old }
-{
-    if t.len() < out.len() * 4 {
-        return false;
-    }
-    let mut at = 0;
-    let mut i = 0;
-    while i < out.len() {
-        out[i] = little32(t, at);
-        at += 4;
-        i += 1;
-    }
-    true
-}
-
-fn load16(t: &[u8], order: ByteOrder, out: &mut [u32]) -> bool
-    ensures value { result ≡ leb (length out.old * 2) (length t.now) }
-    ensures out_after { out.new ≡ if◌then◌else◌ (leb (length out.old * 2) (length t.now)) (numbers order 2 (length out.old) t.now) out.old }
-{
-    match order {
-        ByteOrder::Little => table::load(t, Width::Two, out),
-        ByteOrder::Big => load_big16(t, out),
-    }
-}
-
-fn load32(t: &[u8], order: ByteOrder, out: &mut [u32]) -> bool
-    ensures value { result ≡ leb (length out.old * 4) (length t.now) }
-    ensures out_after { out.new ≡ if◌then◌else◌ (leb (length out.old * 4) (length t.now)) (numbers order 4 (length out.old) t.now) out.old }
-{
-    match order {
-        ByteOrder::Little => load_little32(t, out),
-        ByteOrder::Big => load_big32(t, out),
-    }
 }
 
 // As many numbers as out has places, if t has them. Each order and width has a loop of its own; a number of one byte is the same in both orders.
@@ -140,10 +134,12 @@ pub fn load(t: &[u8], order: ByteOrder, width: Width, out: &mut [u32]) -> bool
     ensures value { result ≡ leb (length out.old * width_bytes width) (length t.now) }
     ensures out_after { out.new ≡ if◌then◌else◌ (leb (length out.old * width_bytes width) (length t.now)) (numbers order (width_bytes width) (length out.old) t.now) out.old }
 {
-    match width {
-        Width::One => table::load(t, Width::One, out),
-        Width::Two => load16(t, order, out),
-        Width::Four => load32(t, order, out),
+    match (width, order) {
+        (Width::One, _) => table::load(t, Width::One, out),
+        (Width::Two, ByteOrder::Little) => table::load(t, Width::Two, out),
+        (Width::Two, ByteOrder::Big) => load_stored::<Big2>(t, out),
+        (Width::Four, ByteOrder::Little) => load_stored::<Little4>(t, out),
+        (Width::Four, ByteOrder::Big) => load_stored::<Big4>(t, out),
     }
 }
 
@@ -156,7 +152,7 @@ fn load_part(t: &[u8], order: ByteOrder, width: Width, p: usize, e: usize, out: 
     load(&t[at..], order, width, &mut out[p..e]);
 }
 
-// The two halves side by side, 256 numbers of each in turn.
+// The two halves side by side, 256 numbers of each in turn. By hand, since the proof of a `for` over a `step_by` does not show that it ends.
 fn load_both(t: &[u8], order: ByteOrder, width: Width, out: &mut [u32])
     requires { length out.old * width_bytes width ≤ length t.now }
     ensures { out.new ≡ numbers order (width_bytes width) (length out.old) t.now }

@@ -1,16 +1,21 @@
 -- The check of a held frame decides refusal 19, and finds a pixel's place.
 -- Assumes nothing.
+use Rattle.canonical.specs.declared.Place.{Place}
+use Rattle.canonical.specs.declared.Unlocated.TheVariants.{NoPixel}
+use Rattle.canonical.specs.declared.Unlocated.TheVariants.{NotCanonical}
+use Rattle.canonical.specs.declared.Unlocated.{Unlocated}
+use Rattle.refusal.specs.declared.Refusal.{Refusal}
 use mathlib.Core.Path.{◌≡◌, refl, sym, ap, subst, ◌∙◌}
 use mathlib.Core.Bool.{Bool, true, false, not, ◌&&◌}
 use mathlib.Core.List.{List, [], ◌∷◌, ◌++◌}
-use Prim.Native.Nat.{ℕ, ◌+◌, ◌-◌, ◌*◌, ◌^◌, ◌≤◌, ◌<◌}
+use Prim.Native.Nat.{ℕ, ◌-◌, ◌*◌, ◌^◌, ◌≤◌, ◌<◌}
 use native.Mathlib.Nat.{mul-le-mul_left, mul-le-mul_right}
 use native.Mathlib.Omega.{arith}
 use borrow.Author.Tests.{le-leb, leb-true, leb-false, le-ltb, ltb-false}
 use lib.Dec.{leb}
 use lib.ListN.{length, take, drop, get_or}
 use lib.Seq.{take_at, drop_at, length-take-le}
-use Rattle.std.specs.Prelude.{if◌then◌else◌}
+use Rattle.std.specs.Prelude.{if◌then◌else◌, Err, None, Ok, Option, Result, Some}
 use Rattle.lists.specs.Bytes.{zeros, held_bytes, same_bytes}
 use Rattle.lists.proofs.Tests.{and-true-left, and-true-right}
 use Rattle.lists.proofs.Same.{same_refl}
@@ -29,18 +34,13 @@ use Rattle.layout.specs.declared.Form.{Form}
 use Rattle.layout.specs.declared.Header.{Header}
 use Rattle.layout.specs.Form.{width_bytes, underflow_bytes}
 use Rattle.layout.specs.Layout.{pixel_count, image_end, two_start, four_start, underflow_count, underflow_width, binary_end}
-use Rattle.header.specs.declared.HeaderAnswer.{HeaderAnswer}
-use Rattle.header.specs.declared.HeaderAnswer.TheVariants as A
 use Rattle.header.specs.Header.{header_of}
 use Rattle.header.proofs.Accepted.{BaselineGood, TablesGood, AcceptedBounds, accepted-bounds}
-use Rattle.table.specs.Table.{entries, all_zero}
+use Rattle.table.specs.Table.{all_zero}
 use Rattle.table.proofs.Laws.{length-entries}
 use Rattle.expand.specs.Steps.{Stored, after_c, exhausted, sums_too_large}
-use Rattle.expand.specs.declared.Expanded.TheVariants as X
 use Rattle.expand.specs.Expand.{stored_of, padding_zero, parts_whole, applies_c, baseline_of, tables_exhausted, baseline_too_large, frame_pixels, binary_answer}
 use Rattle.reader.specs.Reader.{read_answer}
-use Rattle.writer.specs.declared.AskedForm.{AskedForm}
-use Rattle.writer.specs.declared.AskedForm.TheVariants as F
 use Rattle.header_text.specs.declared.Counts.{Counts}
 use Rattle.writer.specs.Storing.{stored_for}
 use Rattle.header_text.specs.Text.{relined, lines_written}
@@ -58,8 +58,6 @@ use Rattle.readback.proofs.Body.{stored-read}
 use Rattle.readback.proofs.Facts.{made_at, held-header, held-parts, start_is, area, entries_fit, frame-end}
 use Rattle.readback.proofs.HeldFrame.{held-is, held-frame}
 use Rattle.readback.proofs.HeldOpened.{opened, count_of, read-passed, pixels-read, read_held, pixels-all, pixels-fit}
-use Rattle.canonical.specs.declared.Located.{Located}
-use Rattle.canonical.specs.declared.Located.TheVariants.{NotCanonical, NoPixel, At}
 use Rattle.canonical.specs.Located.{form_in, tables_base, base_by, start_by, entries_of, place_in, located}
 use Rattle.canonical.specs.Check.{values_canonical, place_by, stated_counts, rest_canonical, check_form, kind_form, check_tables, check_header, check_by, checked, entries_before, pixel_at}
 use Rattle.canonical.proofs.Bytes as entry
@@ -70,7 +68,7 @@ use Rattle.canonical.proofs.Again.{held-again}
 -- what the form and the baseline have to do with the header's underflows
 pub record Named (i : Image) (t : BinaryTables) (form : Form) (b : ℕ) : Type 0 where
   pub width : form.width ≡ i.width
-  pub named : named_by i.width t.underflows ≡ F.Listed form
+  pub named : named_by i.width t.underflows ≡ Some form
   pub bytes : underflow_bytes form.underflow ≡ underflow_width t.underflows
   pub step : applies_c t.underflows ≡ subtracts form.underflow
   pub based : baseline_of t.underflows ≡ b
@@ -94,7 +92,7 @@ both_true a b p q = rw (p, q)
 area_small : (m n : ℕ) → m ≤ 4096 → n ≤ 4096 → m * n ≤ 4294967296
 area_small m n h k = omega (arith, mul-le-mul_left m k, mul-le-mul_right 4096 h)
 
-module _ (held : List ℕ) (h : Header) (t : BinaryTables) (e : header_of held ≡ A.Accepted h) (q : h.tables ≡ T.Format100 t) (small : (k : ℕ) → get_or held k 0 < 256)
+module _ (held : List ℕ) (h : Header) (t : BinaryTables) (e : header_of held ≡ Ok h) (q : h.tables ≡ T.Format100 t) (small : (k : ℕ) → get_or held k 0 < 256)
     (form : Form) (b : ℕ) (n : Named h.image t form b) where
   abbrev i : Image
   i = h.image
@@ -105,7 +103,7 @@ module _ (held : List ℕ) (h : Header) (t : BinaryTables) (e : header_of held �
   bounds : AcceptedBounds held h
   bounds = accepted-bounds held h e
 
-  form-held : held_form held ≡ F.Listed form
+  form-held : held_form held ≡ Some form
   unfolding held_form
   form-held = rw (e, q) n.named
 
@@ -184,8 +182,8 @@ module _ (held : List ℕ) (h : Header) (t : BinaryTables) (e : header_of held �
 
     made : writer_frame held (held_form held) (held_pixels held) ≡ frame (frame_bytes (take i.start held) form s)
     made =
-        ap (λ (a : AskedForm). writer_frame held a (held_pixels held)) form-held
-        ∙ ap (writer_frame held (F.Listed form)) pixels
+        ap (λ (a : Option Form). writer_frame held a (held_pixels held)) form-held
+        ∙ ap (writer_frame held (Some form)) pixels
         ∙ made_at held h t form (frame_pixels held i t) e q (length-frame held i t)
         ∙ ap (made_with (take i.start held) form (frame_pixels held i t)) (n.given (take i.start held))
         ∙ ap (λ (x : Stored). if◌then◌else◌ (underflow_too_large form.underflow x.under) (refused R.UnderflowTooLarge) (frame (frame_bytes (take i.start held) form x))) undone.stored
@@ -215,7 +213,7 @@ module _ (held : List ℕ) (h : Header) (t : BinaryTables) (e : header_of held �
       pub lines : lines_written form (stated_counts t) (take i.start held) ≡ true
       pub tail : all_zero (drop (binary_end i t) held) ≡ true
 
-    module _ (f : List ℕ) (w : writer_frame held (F.Listed form) (held_pixels held) ≡ frame f) (filled : held ≡ held_bytes (length held) f) where
+    module _ (f : List ℕ) (w : writer_frame held (Some form) (held_pixels held) ≡ frame f) (filled : held ≡ held_bytes (length held) f) where
       all : length (held_pixels held) ≡ pixel_count i
       all = pixels-all held h t e q is
 
@@ -239,7 +237,7 @@ module _ (held : List ℕ) (h : Header) (t : BinaryTables) (e : header_of held �
 
       header_is : h ≡ header_for form i.start i.rows i.columns c r
       header_is =
-          let p : A.Accepted h ≡ A.Accepted (header_for form i.start i.rows i.columns c r) =
+          let p : Ok h ≡ Ok (header_for form i.start i.rows i.columns c r) =
           sym e ∙ ap header_of filled ∙ held-header held h t e q form (held_pixels held) all fits f w (length held) in
           cc
 
@@ -290,7 +288,7 @@ module _ (held : List ℕ) (h : Header) (t : BinaryTables) (e : header_of held �
       shown = record { stored = stored_is ∙ ap (λ (x : ℕ). stored_for form x (held_pixels held)) base-is; lines = lines_are; tail = tail-zero }
 
     pub show : Shown
-    show = held-frame held is (λ f w filled. shown f (ap (λ (a : AskedForm). writer_frame held a (held_pixels held)) (sym form-held) ∙ w) filled)
+    show = held-frame held is (λ f w filled. shown f (ap (λ (a : Option Form). writer_frame held a (held_pixels held)) (sym form-held) ∙ w) filled)
 
     rest-passed : rest_canonical held i t form ≡ true
     unfolding rest_canonical
@@ -331,16 +329,16 @@ module _ (held : List ℕ) (h : Header) (t : BinaryTables) (e : header_of held �
 
   -- the answer where the frame is held, and where it is not
   held-answer : (is : is_held held ≡ true) (pixel : ℕ) (t₁ : Bool) → leb (pixel_count i) pixel ≡ t₁
-      → if◌then◌else◌ t₁ NoPixel (At (place_by i.start form b s pixel)) ≡ if◌then◌else◌ t₁ NoPixel (At (place_in held pixel))
+      → if◌then◌else◌ t₁ (Err NoPixel) (Ok (place_by i.start form b s pixel)) ≡ if◌then◌else◌ t₁ (Err NoPixel) (Ok (place_in held pixel))
   held-answer is pixel true l = refl
-  held-answer is pixel false l = ap At (place_same is pixel (leb-false (pixel_count i) pixel l))
+  held-answer is pixel false l = ap Ok (place_same is pixel (leb-false (pixel_count i) pixel l))
 
-  chosen : (a c d : Bool) (x y : Located) → a ≡ true → c ≡ true → d ≡ true → x ≡ y
-      → if◌then◌else◌ (not a) NotCanonical (if◌then◌else◌ (not c) NotCanonical (if◌then◌else◌ (not d) NotCanonical x)) ≡ y
+  chosen : (a c d : Bool) (x y : Result Place Unlocated) → a ≡ true → c ≡ true → d ≡ true → x ≡ y
+      → if◌then◌else◌ (not a) (Err NotCanonical) (if◌then◌else◌ (not c) (Err NotCanonical) (if◌then◌else◌ (not d) (Err NotCanonical) x)) ≡ y
   chosen a c d x y p r o z = rw (p, r, o) z
 
-  refused_all : (a c d : Bool) (x : Located) → (a ≡ true → c ≡ true → d ≡ true → ⊥)
-      → if◌then◌else◌ (not a) NotCanonical (if◌then◌else◌ (not c) NotCanonical (if◌then◌else◌ (not d) NotCanonical x)) ≡ NotCanonical
+  refused_all : (a c d : Bool) (x : Result Place Unlocated) → (a ≡ true → c ≡ true → d ≡ true → ⊥)
+      → if◌then◌else◌ (not a) (Err NotCanonical) (if◌then◌else◌ (not c) (Err NotCanonical) (if◌then◌else◌ (not d) (Err NotCanonical) x)) ≡ (Err NotCanonical)
   refused_all false c d x f = refl
   refused_all true false d x f = refl
   refused_all true true false x f = refl
@@ -354,21 +352,21 @@ module _ (held : List ℕ) (h : Header) (t : BinaryTables) (e : header_of held �
   form-decides pixel = go (is_held held) refl
     where
       go : (x : Bool) → is_held held ≡ x
-          → if◌then◌else◌ (not (parts_whole held i t)) NotCanonical (if◌then◌else◌ (not (rest_canonical held i t form)) NotCanonical (if◌then◌else◌ (not (values_canonical form b s)) NotCanonical
-          (if◌then◌else◌ (leb (pixel_count i) pixel) NoPixel (At (place_by i.start form b s pixel)))))
-          ≡ if◌then◌else◌ (not x) NotCanonical (if◌then◌else◌ (leb (held_count held) pixel) NoPixel (At (place_in held pixel)))
+          → if◌then◌else◌ (not (parts_whole held i t)) (Err NotCanonical) (if◌then◌else◌ (not (rest_canonical held i t form)) (Err NotCanonical) (if◌then◌else◌ (not (values_canonical form b s)) (Err NotCanonical)
+          (if◌then◌else◌ (leb (pixel_count i) pixel) (Err NoPixel) (Ok (place_by i.start form b s pixel)))))
+          ≡ if◌then◌else◌ (not x) (Err NotCanonical) (if◌then◌else◌ (leb (held_count held) pixel) (Err NoPixel) (Ok (place_in held pixel)))
       go true is =
           chosen (parts_whole held i t) (rest_canonical held i t form) (values_canonical form b s) _ _ (passed is) (rest-passed is) (values-passed is)
           (held-answer is pixel (leb (pixel_count i) pixel) refl
-          ∙ ap (λ (x : ℕ). if◌then◌else◌ (leb x pixel) NoPixel (At (place_in held pixel))) (sym (count_of held h e)))
+          ∙ ap (λ (x : ℕ). if◌then◌else◌ (leb x pixel) (Err NoPixel) (Ok (place_in held pixel))) (sym (count_of held h e)))
       go false is = refused_all (parts_whole held i t) (rest_canonical held i t form) (values_canonical form b s) _ (λ p r o. apart (sym (is-held p r o) ∙ is))
 
 -- a buffer that is not held
-not-held : (held : List ℕ) (pixel : ℕ) → (is_held held ≡ true → ⊥) → NotCanonical ≡ located held pixel
+not-held : (held : List ℕ) (pixel : ℕ) → (is_held held ≡ true → ⊥) → (Err NotCanonical) ≡ located held pixel
 unfolding located
 not-held held pixel f = go (is_held held) refl
   where
-    go : (x : Bool) → is_held held ≡ x → NotCanonical ≡ if◌then◌else◌ (not x) NotCanonical (if◌then◌else◌ (leb (held_count held) pixel) NoPixel (At (place_in held pixel)))
+    go : (x : Bool) → is_held held ≡ x → (Err NotCanonical) ≡ if◌then◌else◌ (not x) (Err NotCanonical) (if◌then◌else◌ (leb (held_count held) pixel) (Err NoPixel) (Ok (place_in held pixel)))
     go true is = absurd (f is)
     go false is = refl
 
@@ -380,7 +378,7 @@ good-base (H.NoWidth b) g = g
 good-base (H.Counted w n b) g = g
 
 module _ (held : List ℕ) (pixel : ℕ) (small : (k : ℕ) → get_or held k 0 < 256) where
-  module _ (h : Header) (t : BinaryTables) (e : header_of held ≡ A.Accepted h) (q : h.tables ≡ T.Format100 t) where
+  module _ (h : Header) (t : BinaryTables) (e : header_of held ≡ Ok h) (q : h.tables ≡ T.Format100 t) where
     low : baseline_of t.underflows ≤ 65535
     unfolding TablesGood
     low = good-base t.underflows (subst TablesGood q (accepted-bounds held h e).baseline)
@@ -389,7 +387,7 @@ module _ (held : List ℕ) (pixel : ℕ) (small : (k : ℕ) → get_or held k 0 
     unfolding held_form
     no-form b u is =
         let o = opened held is in
-        let p : F.Unlisted ≡ F.Listed o.form = sym (rw (e, q, u)) ∙ o.named in
+        let p : None ≡ Some o.form = sym (rw (e, q, u)) ∙ o.named in
         let y : ◌≡◌ {A = ℕ} 0 1 = cc in omega arith
 
     tables-decide : (u : Underflows) → t.underflows ≡ u → check_tables held h.image t u pixel ≡ located held pixel
@@ -401,24 +399,24 @@ module _ (held : List ℕ) (pixel : ℕ) (small : (k : ℕ) → get_or held k 0 
         form-decides held h t e q small (kind_form h.image.width (U.Subtracted w)) b
         (record { width = refl; named = rw u; bytes = rw u; step = rw u; based = rw u; kind = tt; given = λ header. rw u; low = (let l = rw u at low in l) }) pixel
 
-  other-tables : (h : Header) → header_of held ≡ A.Accepted h → (n : ℕ) → h.tables ≡ T.Format86 n → is_held held ≡ true → ⊥
+  other-tables : (h : Header) → header_of held ≡ Ok h → (n : ℕ) → h.tables ≡ T.Format86 n → is_held held ≡ true → ⊥
   other-tables h e n q is =
       let o = opened held is in
-      let p : A.Accepted h ≡ A.Accepted o.header = sym e ∙ o.accepted in
+      let p : Ok h ≡ Ok o.header = sym e ∙ o.accepted in
       let r : h ≡ o.header = cc in
       let g : T.Format86 n ≡ T.Format100 o.tables = sym q ∙ ap (λ (x : Header). x.tables) r ∙ o.binary in
       let y : ◌≡◌ {A = ℕ} 0 1 = cc in omega arith
 
-  header-decides : (h : Header) → header_of held ≡ A.Accepted h → (t : Tables) → h.tables ≡ t → check_header held h.image t pixel ≡ located held pixel
+  header-decides : (h : Header) → header_of held ≡ Ok h → (t : Tables) → h.tables ≡ t → check_header held h.image t pixel ≡ located held pixel
   header-decides h e (T.Format86 n) q = not-held held pixel (other-tables h e n q)
   header-decides h e (T.Format100 t) q = tables-decide h t e q t.underflows refl
 
-  answer-decides : (a : HeaderAnswer) → header_of held ≡ a → check_by held a pixel ≡ located held pixel
-  answer-decides (A.Accepted h) e = header-decides h e h.tables refl
-  answer-decides (A.Refused r) e =
+  answer-decides : (a : Result Header Refusal) → header_of held ≡ a → check_by held a pixel ≡ located held pixel
+  answer-decides (Ok h) e = header-decides h e h.tables refl
+  answer-decides (Err r) e =
       not-held held pixel (λ is.
       let o = opened held is in
-      let p : A.Refused r ≡ A.Accepted o.header = sym e ∙ o.accepted in
+      let p : Err r ≡ Ok o.header = sym e ∙ o.accepted in
       let y : ◌≡◌ {A = ℕ} 0 1 = cc in omega arith)
 
   -- the check decides 19, and finds the pixel

@@ -1,5 +1,7 @@
 -- Laws of the check: numbers within a range, the parts of a table, and what one pass finds.
 -- Assumes nothing.
+use Rattle.canonical.specs.declared.Unlocated.TheVariants.{NoPixel}
+use Rattle.canonical.specs.declared.Unlocated.TheVariants.{NotCanonical}
 use mathlib.Core.Path.{◌≡◌, refl, sym, ap, ◌∙◌}
 use mathlib.Core.Bool.{Bool, true, false, ◌&&◌}
 use mathlib.Core.List.{List, [], ◌∷◌}
@@ -10,7 +12,7 @@ use lib.ListN.{length, take, drop, get_or, length-take, take-append-drop}
 use lib.Dec.{eqb, leb}
 use lib.Seq.{take_all, length-take-le}
 use borrow.Author.Tests.{lt-ltb, le-ltb, le-leb, lt-leb, leb-true, leb-false, ne_eqb}
-use Rattle.std.specs.Prelude.{if◌then◌else◌}
+use Rattle.std.specs.Prelude.{if◌then◌else◌, Err, Ok}
 use Rattle.lists.proofs.Tests.{and-true-left, and-true-right}
 use Rattle.layout.specs.declared.Width.{Width}
 use Rattle.layout.specs.declared.Width.TheVariants as W
@@ -19,7 +21,7 @@ use Rattle.layout.specs.declared.Underflow.TheVariants as U
 use Rattle.layout.specs.declared.Form.{Form}
 use Rattle.layout.specs.Form.{width_bytes}
 use Rattle.layout.proofs.Laws.{width-pos}
-use Rattle.table.specs.Table.{entries, whole_entries}
+use Rattle.table.specs.Table.{whole_entries}
 use Rattle.table.proofs.Laws.{length-entries, take-entries, entries-take, whole_from}
 use Rattle.expand.specs.Steps.{Stored, count}
 use Rattle.expand.proofs.Steps.{count-le}
@@ -35,7 +37,6 @@ use Rattle.canonical.specs.Check.{all_within, highest, mark_of, four_marks, entr
 use Rattle.canonical.specs.Parts.{seen_of, check_stored}
 use Rattle.canonical.specs.declared.Marks.{Marks}
 use Rattle.canonical.specs.declared.Seen.{Seen}
-use Rattle.canonical.specs.declared.Located.TheVariants.{NotCanonical, NoPixel, At}
 
 -- every number lies in a range where none lies outside it
 pub within-is : (m low high : ℕ) (xs : List ℕ) → eqb (tally_of m low high xs).outside 0 ≡ all_within low high xs
@@ -214,21 +215,21 @@ module _ (start : ℕ) (form : Form) (base : ℕ) (s : Stored) (pixel : ℕ) {x 
   pub numbers_of : x.within ≡ true → numbers_within base s ≡ true
   numbers_of h = within_of ∙ h
 
-  pub other-numbers : x.within ≡ false → NotCanonical ≡ check_stored start form base s pixel
+  pub other-numbers : x.within ≡ false → (Err NotCanonical) ≡ check_stored start form base s pixel
   unfolding check_stored values_canonical
   other-numbers h = rw (within_of, h)
 
   module _ {c : Counts} {r : Bool} (er : r ≡ same_counts (entries_for form x.all.zeros x.all.marks x.all.two_marks) c) (ec : c ≡ stored_counts s) (h : x.within ≡ true) where
-    pub other_entries : r ≡ false → NotCanonical ≡ check_stored start form base s pixel
+    pub other_entries : r ≡ false → (Err NotCanonical) ≡ check_stored start form base s pixel
     unfolding check_stored values_canonical
     other_entries k = rw (within_of, h, same_of er ec, k)
 
     module _ {n : ℕ} (k : r ≡ true) (en : n ≡ length s.image) where
-      pub pixel-past : n ≤ pixel → NoPixel ≡ check_stored start form base s pixel
+      pub pixel-past : n ≤ pixel → (Err NoPixel) ≡ check_stored start form base s pixel
       unfolding check_stored values_canonical
       pixel-past l = rw (within_of, h, same_of er ec, k, le-leb _ _ (rw en at l))
 
       pub pixel-there : {before : Counts} {old : ℕ} → pixel < n → before ≡ entries_for form x.before.zeros x.before.marks x.before.two_marks → old ≡ pixel_at form base s before pixel
-          → At (record { start = start; pixels = n; form = form; baseline = base; entries = c; before = before; old = old }) ≡ check_stored start form base s pixel
+          → Ok (record { start = start; pixels = n; form = form; baseline = base; entries = c; before = before; old = old }) ≡ check_stored start form base s pixel
       unfolding check_stored values_canonical place_by
       pixel-there l eb eo = rw (within_of, h, same_of er ec, k, lt-leb _ _ (rw en at l), eo, before_of eb, ec, en)

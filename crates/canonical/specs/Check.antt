@@ -1,6 +1,11 @@
 -- What the code looks at, part by part: header lines, paddings, and the numbers of the image and of each table. No public contract
 -- cites this file; proofs/Decides.antt has that it comes to the same as refusal 19.
-use Rattle.std.specs.Prelude.{ℕ, ◌+◌, ◌-◌, Bool, true, not, ◌&&◌, List, [], ◌∷◌, length, get_or, take, drop, eqb, leb, if◌then◌else◌}
+use Rattle.canonical.specs.declared.Unlocated.TheVariants.{NoPixel}
+use Rattle.canonical.specs.declared.Unlocated.TheVariants.{NotCanonical}
+use Rattle.canonical.specs.declared.Unlocated.{Unlocated}
+use Rattle.layout.specs.declared.Header.{Header}
+use Rattle.refusal.specs.declared.Refusal.{Refusal}
+use Rattle.std.specs.Prelude.{ℕ, ◌+◌, ◌-◌, Bool, true, not, ◌&&◌, List, [], ◌∷◌, length, get_or, take, drop, eqb, leb, if◌then◌else◌, Err, Ok, Result}
 use Rattle.layout.specs.declared.Width.{Width}
 use Rattle.layout.specs.declared.Width.TheVariants as W
 use Rattle.layout.specs.declared.Underflow.{Underflow}
@@ -13,8 +18,6 @@ use Rattle.layout.specs.declared.Tables.{Tables}
 use Rattle.layout.specs.declared.Tables.TheVariants as T
 use Rattle.layout.specs.declared.Form.{Form}
 use Rattle.layout.specs.Layout.{pixel_count, underflow_count, binary_end}
-use Rattle.header.specs.declared.HeaderAnswer.{HeaderAnswer}
-use Rattle.header.specs.declared.HeaderAnswer.TheVariants as A
 use Rattle.header.specs.Header.{header_of}
 use Rattle.table.specs.Table.{all_zero}
 use Rattle.expand.specs.Steps.{Stored, count}
@@ -24,8 +27,6 @@ use Rattle.header_text.specs.Text.{lines_written}
 use Rattle.writer.specs.Frame.{stored_counts}
 use Rattle.pixel_counts.specs.Counts.{under_count, two_count}
 use Rattle.canonical.specs.declared.Place.{Place}
-use Rattle.canonical.specs.declared.Located.{Located}
-use Rattle.canonical.specs.declared.Located.TheVariants.{NotCanonical, NoPixel, At}
 
 -- every number lies between low and high
 unfoldable pub all_within : ℕ → ℕ → List ℕ → Bool
@@ -123,32 +124,32 @@ unfoldable pub rest_canonical : List ℕ → Image → BinaryTables → Form →
 unfolding lines_written all_zero
 rest_canonical held i t form = lines_written form (stated_counts t) (take i.start held) && all_zero (drop (binary_end i t) held)
 
-unfoldable pub check_form : List ℕ → Image → BinaryTables → Form → ℕ → ℕ → Located
+unfoldable pub check_form : List ℕ → Image → BinaryTables → Form → ℕ → ℕ → Result Place Unlocated
 unfolding parts_whole rest_canonical values_canonical place_by stored_of
 check_form held i t form base pixel =
-    if not (parts_whole held i t) then NotCanonical else
-    if not (rest_canonical held i t form) then NotCanonical else
-    if not (values_canonical form base (stored_of held i t)) then NotCanonical else
-    if leb (pixel_count i) pixel then NoPixel else
-    At (place_by i.start form base (stored_of held i t) pixel)
+    if not (parts_whole held i t) then (Err NotCanonical) else
+    if not (rest_canonical held i t form) then (Err NotCanonical) else
+    if not (values_canonical form base (stored_of held i t)) then (Err NotCanonical) else
+    if leb (pixel_count i) pixel then (Err NoPixel) else
+    Ok (place_by i.start form base (stored_of held i t) pixel)
 
 abbrev pub kind_form : Width → Underflow → Form
 kind_form w u = record { width = w; underflow = u }
 
 -- by the underflows that the header states
-abbrev pub check_tables : List ℕ → Image → BinaryTables → Underflows → ℕ → Located
+abbrev pub check_tables : List ℕ → Image → BinaryTables → Underflows → ℕ → Result Place Unlocated
 check_tables held i t H.Unused pixel = check_form held i t (kind_form i.width U.None) 0 pixel
-check_tables held i t (H.NoWidth b) pixel = NotCanonical
+check_tables held i t (H.NoWidth b) pixel = (Err NotCanonical)
 check_tables held i t (H.Counted e n b) pixel = check_form held i t (kind_form i.width (U.Subtracted e)) b pixel
 
-abbrev pub check_header : List ℕ → Image → Tables → ℕ → Located
-check_header held i (T.Format86 n) pixel = NotCanonical
+abbrev pub check_header : List ℕ → Image → Tables → ℕ → Result Place Unlocated
+check_header held i (T.Format86 n) pixel = (Err NotCanonical)
 check_header held i (T.Format100 t) pixel = check_tables held i t t.underflows pixel
 
-abbrev pub check_by : List ℕ → HeaderAnswer → ℕ → Located
-check_by held (A.Accepted h) pixel = check_header held h.image h.tables pixel
-check_by held (A.Refused r) pixel = NotCanonical
+abbrev pub check_by : List ℕ → Result Header Refusal → ℕ → Result Place Unlocated
+check_by held (Ok h) pixel = check_header held h.image h.tables pixel
+check_by held (Err r) pixel = (Err NotCanonical)
 
-unfoldable pub checked : List ℕ → ℕ → Located
+unfoldable pub checked : List ℕ → ℕ → Result Place Unlocated
 unfolding check_form
 checked held pixel = check_by held (header_of held) pixel

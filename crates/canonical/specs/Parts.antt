@@ -1,5 +1,9 @@
 -- What the private functions say of themselves: the check over the parts of a frame. No public contract cites this file.
-use Rattle.std.specs.Prelude.{ℕ, ◌≡◌, not, List, length, take, leb, if◌then◌else◌}
+use Rattle.canonical.specs.declared.Place.{Place}
+use Rattle.canonical.specs.declared.Unlocated.TheVariants.{NoPixel}
+use Rattle.canonical.specs.declared.Unlocated.TheVariants.{NotCanonical}
+use Rattle.canonical.specs.declared.Unlocated.{Unlocated}
+use Rattle.std.specs.Prelude.{ℕ, ◌≡◌, not, List, length, take, leb, if◌then◌else◌, Err, Ok, Result}
 use Rattle.layout.specs.declared.Width.{Width}
 use Rattle.layout.specs.declared.Underflow.{Underflow}
 use Rattle.layout.specs.declared.Underflow.TheVariants as U
@@ -13,8 +17,6 @@ use Rattle.expand.specs.Blocks.{step_of}
 use Rattle.canonical.specs.Check.{mark_of, numbers_within, values_canonical, marks_before, place_by}
 use Rattle.canonical.specs.declared.Marks.{Marks}
 use Rattle.canonical.specs.declared.Seen.{Seen}
-use Rattle.canonical.specs.declared.Located.{Located}
-use Rattle.canonical.specs.declared.Located.TheVariants.{NotCanonical, NoPixel, At}
 
 -- the bytes of an underflow entry; kind none has no entries, of any width
 abbrev pub under_bytes : Underflow → ℕ
@@ -49,9 +51,9 @@ pub record FormOf (form : Form) (i : Image) (t : BinaryTables) : Type 0 where
   pub under : under_bytes form.underflow ≡ entry_bytes (step_of t.underflows).width
 
 -- the check from the values on
-unfoldable pub check_stored : ℕ → Form → ℕ → Stored → ℕ → Located
+unfoldable pub check_stored : ℕ → Form → ℕ → Stored → ℕ → Result Place Unlocated
 unfolding values_canonical place_by
 check_stored start form base s pixel =
-    if not (values_canonical form base s) then NotCanonical else
-    if leb (length s.image) pixel then NoPixel else
-    At (place_by start form base s pixel)
+    if not (values_canonical form base s) then (Err NotCanonical) else
+    if leb (length s.image) pixel then (Err NoPixel) else
+    Ok (place_by start form base s pixel)

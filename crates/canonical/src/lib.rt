@@ -11,14 +11,14 @@ ghost use Rattle.writer.specs.Frame.{stored_counts};
 ghost use Rattle.writer.specs.Blocks.{given_baseline};
 ghost use Rattle.pixel_counts.specs.Counts.{under_count, two_count};
 ghost use Rattle.tally.specs.Tally.{tally_of};
-ghost use Rattle.canonical.specs.Located.{located};
+ghost use Rattle.canonical.specs.Located.{located, unlocated};
 ghost use Rattle.canonical.specs.Check.{mark_of, four_marks, entries_for, same_counts, numbers_within, after_two, after_four, after_under, pixel_at, stated_counts, check_form, check_tables, checked};
 ghost use Rattle.canonical.specs.Parts.{under_bytes, parts_stored, seen_of, FormOf, check_stored};
 
-use expand::{PartsAnswer, Places};
-use header::HeaderAnswer;
+use expand::Places;
 use header_text::Counts;
 use layout::{BinaryTables, Form, Image, Tables, Underflow, Underflows, Width};
+use refusal::Refusal;
 use tally::Tally;
 
 // A pixel of a held frame: the form, the numbers of pixels and of entries, the entries of the pixels before it, and its count.
@@ -34,11 +34,22 @@ pub struct Place {
     pub old: u32,
 }
 
+// Why a pixel has no place.
 #[derive(Clone, Copy)]
-pub enum Located {
+pub enum Unlocated {
     NotCanonical,
     NoPixel,
-    At(Place),
+}
+
+impl From<Unlocated> for Refusal {
+    ghost from_gives = { λ u r. r ≡ unlocated u };
+
+    fn from(u: Unlocated) -> Refusal {
+        match u {
+            Unlocated::NotCanonical => Refusal::HeldNotCanonical,
+            Unlocated::NoPixel => Refusal::NoSuchPixel,
+        }
+    }
 }
 
 // The counts of the first entries of a table, and of all.
@@ -46,6 +57,15 @@ pub enum Located {
 struct Split {
     first: Tally,
     all: Tally,
+}
+
+// The bytes of the image and of the tables, without their paddings.
+#[derive(Clone, Copy)]
+struct Parts<'a> {
+    image: &'a [u8],
+    under: &'a [u8],
+    two: &'a [u8],
+    four: &'a [u8],
 }
 
 // The zeros and marks of an image, and the marks of a two-byte table.
@@ -98,8 +118,7 @@ fn two_asked(w: Width, marks: usize) -> usize
 {
     match w {
         Width::One => marks,
-        Width::Two => 0,
-        Width::Four => 0,
+        Width::Two | Width::Four => 0,
     }
 }
 
@@ -117,15 +136,9 @@ fn four_asked(w: Width, marks: usize, two_marks: usize) -> usize
 fn same_entries(form: Form, m: Marks, c: Counts) -> bool
     ensures { result ≡ same_counts (entries_for form m.zeros m.marks m.two_marks) c }
 {
-    let u = form.underflow;
-    let w = form.width;
-    if under_asked(u, m.zeros) != c.under as usize {
-        return false;
-    }
-    if two_asked(w, m.marks) != c.two as usize {
-        return false;
-    }
-    four_asked(w, m.marks, m.two_marks) == c.four as usize
+    under_asked(form.underflow, m.zeros) == c.under as usize
+        && two_asked(form.width, m.marks) == c.two as usize
+        && four_asked(form.width, m.marks, m.two_marks) == c.four as usize
 }
 
 // The entries that go with the marks.
@@ -133,18 +146,11 @@ fn entries_for(form: Form, m: Marks) -> Counts
     requires { (m.zeros < 2 ^ 32) × (m.marks < 2 ^ 32) × (m.two_marks < 2 ^ 32) }
     ensures { result ≡ entries_for form m.zeros m.marks m.two_marks }
 {
-    let u = form.underflow;
-    let w = form.width;
-    let under = under_asked(u, m.zeros) as u32;
-    let two = two_asked(w, m.marks) as u32;
-    let four = four_asked(w, m.marks, m.two_marks) as u32;
-    Counts { under, two, four }
-}
-
-fn least(a: usize, b: usize) -> usize
-    ensures { (result ≤ a) × (result ≤ b) × (b ≤ a → result ≡ b) × (a ≤ b → result ≡ a) }
-{
-    if a < b { a } else { b }
+    Counts {
+        under: under_asked(form.underflow, m.zeros) as u32,
+        two: two_asked(form.width, m.marks) as u32,
+        four: four_asked(form.width, m.marks, m.two_marks) as u32,
+    }
 }
 
 // The counts of the first j entries of a table, and of all.
@@ -152,7 +158,7 @@ fn tally_at(t: &[u8], w: Width, j: usize, mark: u32, low: u32, high: u32) -> Spl
     ensures { (result.first ≡ tally_of mark low high (take j (whole_entries (width_bytes w) t.now))) × (result.all ≡ tally_of mark low high (whole_entries (width_bytes w) t.now)) }
 {
     let each = layout::width_bytes(w);
-    let k = least(j, t.len() / each);
+    let k = j.min(t.len() / each);
     let at = k * each;
     let first = tally::tally_table(&t[..at], w, mark, low, high);
     let rest = tally::tally_table(&t[at..], w, mark, low, high);
@@ -167,53 +173,31 @@ fn tally_at(t: &[u8], w: Width, j: usize, mark: u32, low: u32, high: u32) -> Spl
 fn none_outside(image: Tally, under: Tally, two: Tally, four: Tally) -> bool
     ensures { result ≡ (eqb image.outside 0 && eqb under.outside 0 && eqb two.outside 0 && eqb four.outside 0) }
 {
-    if image.outside != 0 {
-        return false;
-    }
-    if under.outside != 0 {
-        return false;
-    }
-    if two.outside != 0 {
-        return false;
-    }
-    four.outside == 0
+    image.outside == 0 && under.outside == 0 && two.outside == 0 && four.outside == 0
 }
 
 // One pass over the image and the tables.
-fn look(
-    image: &[u8],
-    under: &[u8],
-    two: &[u8],
-    four: &[u8],
-    form: Form,
-    base: u32,
-    j: usize,
-) -> Seen
-    ensures { result ≡ seen_of form base (parts_stored form image.now under.now two.now four.now) j }
+fn look(p: Parts<'_>, form: Form, base: u32, j: usize) -> Seen
+    ensures { result ≡ seen_of form base (parts_stored form p.entry.image.now p.entry.under.now p.entry.two.now p.entry.four.now) j }
 {
     let w = form.width;
-    let u = form.underflow;
     let high = 4294967295 - base;
-    let i = tally_at(image, w, j, mark_of(w), 0, high);
-    let first = i.first;
-    let all = i.all;
-    let k = two_asked(w, first.marks);
-    let t = tally_at(two, Width::Two, k, 65535, 255, 65535);
-    let first2 = t.first;
-    let all2 = t.all;
-    let c = tally::tally_table(under, under_width(u), 0, 0, base);
-    let f = tally::tally_table(four, Width::Four, 0, 65535, high);
-    let within = none_outside(all, c, all2, f);
+    let i = tally_at(p.image, w, j, mark_of(w), 0, high);
+    let k = two_asked(w, i.first.marks);
+    let t = tally_at(p.two, Width::Two, k, 65535, 255, 65535);
+    let c = tally::tally_table(p.under, under_width(form.underflow), 0, 0, base);
+    let f = tally::tally_table(p.four, Width::Four, 0, 65535, high);
+    let within = none_outside(i.all, c, t.all, f);
     Seen {
         before: Marks {
-            zeros: first.zeros,
-            marks: first.marks,
-            two_marks: first2.marks,
+            zeros: i.first.zeros,
+            marks: i.first.marks,
+            two_marks: t.first.marks,
         },
         all: Marks {
-            zeros: all.zeros,
-            marks: all.marks,
-            two_marks: all2.marks,
+            zeros: i.all.zeros,
+            marks: i.all.marks,
+            two_marks: t.all.marks,
         },
         within,
     }
@@ -225,8 +209,7 @@ fn after_two(w: Width, x: u32, e: u32) -> u32
 {
     match w {
         Width::One => if x == 255 { e } else { x },
-        Width::Two => x,
-        Width::Four => x,
+        Width::Two | Width::Four => x,
     }
 }
 
@@ -235,8 +218,7 @@ fn after_four(w: Width, x: u32, e: u32) -> u32
     ensures { result ≡ after_four w x e }
 {
     match w {
-        Width::One => if x == 65535 { e } else { x },
-        Width::Two => if x == 65535 { e } else { x },
+        Width::One | Width::Two => if x == 65535 { e } else { x },
         Width::Four => x,
     }
 }
@@ -253,59 +235,50 @@ fn after_under(u: Underflow, base: u32, x: u32, e: u32) -> u32
 }
 
 // Pixel j of canonical numbers, with these entries before it.
-fn pixel_at(
-    image: &[u8],
-    under: &[u8],
-    two: &[u8],
-    four: &[u8],
-    form: Form,
-    base: u32,
-    before: Counts,
-    j: usize,
-) -> u32
-    requires { (base ≤ 65535) × (numbers_within base (parts_stored form image.now under.now two.now four.now) ≡ true) }
-    ensures { result ≡ pixel_at form base (parts_stored form image.now under.now two.now four.now) before j }
+fn pixel_at(p: Parts<'_>, form: Form, base: u32, before: Counts, j: usize) -> u32
+    requires { (base ≤ 65535) × (numbers_within base (parts_stored form p.image.now p.under.now p.two.now p.four.now) ≡ true) }
+    ensures { result ≡ pixel_at form base (parts_stored form p.entry.image.now p.entry.under.now p.entry.two.now p.entry.four.now) before j }
 {
     let w = form.width;
     let u = form.underflow;
-    let x = table::entry(image, w, j);
-    let a = after_two(w, x, table::entry(two, Width::Two, before.two as usize));
-    let b = after_four(w, a, table::entry(four, Width::Four, before.four as usize));
-    let e = table::entry(under, under_width(u), before.under as usize);
+    let x = table::entry(p.image, w, j);
+    let a = after_two(w, x, table::entry(p.two, Width::Two, before.two as usize));
+    let b = after_four(
+        w,
+        a,
+        table::entry(p.four, Width::Four, before.four as usize),
+    );
+    let e = table::entry(p.under, under_width(u), before.under as usize);
     after_under(u, base, b, e)
 }
 
-// The check from the parts on. The entries and the pixels are as many as the header states.
+// The check from the parts on. The entries and the pixels are as many as the header states. The other arguments stay apart, since
+// check_stored and place_by (specs/) take them one by one.
 fn check_parts(
-    image: &[u8],
-    under: &[u8],
-    two: &[u8],
-    four: &[u8],
+    p: Parts<'_>,
     start: u32,
     form: Form,
     base: u32,
     entries: Counts,
     n: usize,
     pixel: u32,
-) -> Located
-    requires { (base ≤ 65535) × (entries ≡ stored_counts (parts_stored form image.now under.now two.now four.now)) × (n ≡ length (parts_stored form image.now under.now two.now four.now).image) }
-    ensures { result ≡ check_stored start form base (parts_stored form image.now under.now two.now four.now) pixel }
+) -> Result<Place, Unlocated>
+    requires { (base ≤ 65535) × (entries ≡ stored_counts (parts_stored form p.image.now p.under.now p.two.now p.four.now)) × (n ≡ length (parts_stored form p.image.now p.under.now p.two.now p.four.now).image) }
+    ensures { result ≡ check_stored start form base (parts_stored form p.entry.image.now p.entry.under.now p.entry.two.now p.entry.four.now) pixel }
 {
-    let s = look(image, under, two, four, form, base, pixel as usize);
+    let s = look(p, form, base, pixel as usize);
     if !s.within {
-        return Located::NotCanonical;
+        return Err(Unlocated::NotCanonical);
     }
-    let all = s.all;
-    if !same_entries(form, all, entries) {
-        return Located::NotCanonical;
+    if !same_entries(form, s.all, entries) {
+        return Err(Unlocated::NotCanonical);
     }
     if n <= pixel as usize {
-        return Located::NoPixel;
+        return Err(Unlocated::NoPixel);
     }
-    let m = s.before;
-    let before = entries_for(form, m);
-    let old = pixel_at(image, under, two, four, form, base, before, pixel as usize);
-    Located::At(Place {
+    let before = entries_for(form, s.before);
+    let old = pixel_at(p, form, base, before, pixel as usize);
+    Ok(Place {
         start,
         pixels: n,
         form,
@@ -320,13 +293,8 @@ fn underflow_count(u: Underflows) -> u32
     ensures { result ≡ underflow_count u }
 {
     match u {
-        Underflows::Unused => 0,
-        Underflows::NoWidth { baseline: _ } => 0,
-        Underflows::Counted {
-            entry: _,
-            count,
-            baseline: _,
-        } => count,
+        Underflows::Unused | Underflows::NoWidth { .. } => 0,
+        Underflows::Counted { count, .. } => count,
     }
 }
 
@@ -334,10 +302,8 @@ fn underflow_count(u: Underflows) -> u32
 fn stated_counts(t: BinaryTables) -> Counts
     ensures { result ≡ stated_counts t }
 {
-    let u = t.underflows;
-    let under = underflow_count(u);
     Counts {
-        under,
+        under: underflow_count(t.underflows),
         two: t.two,
         four: t.four,
     }
@@ -353,32 +319,18 @@ fn check_at(
     p: Places,
     entries: Counts,
     pixel: u32,
-) -> Located
+) -> Result<Place, Unlocated>
     requires { (base ≤ 65535) × FormOf form image t × (parts_whole held.now image t ≡ true) × (p ≡ places_of image t) × (entries ≡ stated_counts t) }
     ensures { result ≡ check_stored image.start form base (stored_of held.now image t) pixel }
 {
-    let under = p.under;
-    let two = p.two;
-    let four = p.four;
-    let start = p.image;
-    let us = under.start;
-    let ue = under.padding;
-    let ts = two.start;
-    let te = two.padding;
-    let fs = four.start;
-    let fe = four.padding;
-    check_parts(
-        &held[start..us],
-        &held[us..ue],
-        &held[ts..te],
-        &held[fs..fe],
-        image.start,
-        form,
-        base,
-        entries,
-        layout::pixel_count(image),
-        pixel,
-    )
+    let parts = Parts {
+        image: &held[p.image..p.under.start],
+        under: &held[p.under.start..p.under.padding],
+        two: &held[p.two.start..p.two.padding],
+        four: &held[p.four.start..p.four.padding],
+    };
+    let n = layout::pixel_count(image);
+    check_parts(parts, image.start, form, base, entries, n, pixel)
 }
 
 // The check of a frame of FORMAT 100 in the form and with the baseline that its header names.
@@ -389,44 +341,39 @@ fn check_form(
     form: Form,
     base: u32,
     pixel: u32,
-) -> Located
+) -> Result<Place, Unlocated>
     requires { (base ≤ 65535) × FormOf form image t }
     ensures { result ≡ check_form held.now image t form base pixel }
 {
-    let parts = expand::parts_of(held, image, t);
-    let PartsAnswer::At(p) = parts else {
-        return Located::NotCanonical;
+    let Some(p) = expand::parts_of(held, image, t) else {
+        return Err(Unlocated::NotCanonical);
     };
-    let four = p.four;
-    let start = p.image;
-    let end = four.end;
     let entries = stated_counts(t);
-    if !header_text::is_rewritten(&held[..start], form, entries) {
-        return Located::NotCanonical;
+    if !header_text::is_rewritten(&held[..p.image], form, entries) {
+        return Err(Unlocated::NotCanonical);
     }
-    if !table::all_zero(&held[end..]) {
-        return Located::NotCanonical;
+    if !table::all_zero(&held[p.four.end..]) {
+        return Err(Unlocated::NotCanonical);
     }
     check_at(held, image, t, form, base, p, entries, pixel)
 }
 
 // By the underflows that the header states.
-fn check_tables(held: &[u8], image: Image, t: BinaryTables, pixel: u32) -> Located
+fn check_tables(held: &[u8], image: Image, t: BinaryTables, pixel: u32) -> Result<Place, Unlocated>
     requires { given_baseline t.underflows ≤ 65535 }
     ensures { result ≡ check_tables held.now image t t.underflows pixel }
 {
     let width = image.width;
-    let u = t.underflows;
-    match u {
+    match t.underflows {
         Underflows::Unused => {
             let underflow = Underflow::None;
             check_form(held, image, t, Form { width, underflow }, 0, pixel)
         }
-        Underflows::NoWidth { baseline: _ } => Located::NotCanonical,
+        Underflows::NoWidth { .. } => Err(Unlocated::NotCanonical),
         Underflows::Counted {
             entry,
-            count: _,
             baseline,
+            ..
         } => {
             let underflow = Underflow::Subtracted(entry);
             check_form(held, image, t, Form { width, underflow }, baseline, pixel)
@@ -435,23 +382,20 @@ fn check_tables(held: &[u8], image: Image, t: BinaryTables, pixel: u32) -> Locat
 }
 
 // The check, part by part.
-fn check(held: &[u8], pixel: u32) -> Located
+fn check(held: &[u8], pixel: u32) -> Result<Place, Unlocated>
     ensures { result ≡ checked held.now pixel }
 {
-    let answer = header::read_header(held);
-    let HeaderAnswer::Accepted(h) = answer else {
-        return Located::NotCanonical;
+    let Ok(h) = header::read_header(held) else {
+        return Err(Unlocated::NotCanonical);
     };
-    let image = h.image;
-    let tables = h.tables;
-    let Tables::Format100(t) = tables else {
-        return Located::NotCanonical;
+    let Tables::Format100(t) = h.tables else {
+        return Err(Unlocated::NotCanonical);
     };
-    check_tables(held, image, t, pixel)
+    check_tables(held, h.image, t, pixel)
 }
 
 // 19, 24, or a pixel's place in a held frame.
-pub fn locate(held: &[u8], pixel: u32) -> Located
+pub fn locate(held: &[u8], pixel: u32) -> Result<Place, Unlocated>
     ensures { result ≡ located held.now pixel }
 {
     check(held, pixel)

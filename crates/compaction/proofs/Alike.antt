@@ -1,15 +1,14 @@
 -- Two ledgers of one length with the same stack, the second with no more lines used: what keeps them so.
 -- Assumes nothing.
 use mathlib.Core.Path.{◌≡◌, refl, sym, ap, ◌∙◌}
-use mathlib.Core.Bool.{Bool, false, ◌&&◌, ◌||◌}
-use mathlib.Core.List.{List, [], ◌∷◌, ◌++◌}
+use mathlib.Core.Bool.{Bool, false}
+use mathlib.Core.List.{List, []}
 use Prim.Native.Nat.{ℕ, ◌+◌, ◌*◌, ◌/◌, ◌≤◌, ◌<◌}
 use native.Mathlib.Omega.{arith}
 use lib.ListN.{length, drop, length-drop}
-use Rattle.std.specs.Prelude.{if◌then◌else◌}
+use Rattle.std.specs.Prelude.{if◌then◌else◌, Err, Ok}
 use Rattle.refusal.specs.declared.Refusal.TheVariants as R
 use Rattle.ledger.specs.declared.Line.{Line}
-use Rattle.ledger.specs.declared.LedgerAnswer.TheVariants as L
 use Rattle.ledger.specs.Lines.{lines_of}
 use Rattle.ledger.specs.Standing.{standing, last_standing}
 use Rattle.ledger.specs.Ledger.{capacity, ledger_malformed, with_line}
@@ -44,7 +43,7 @@ alike-more {t} {u} {n} {k} a room l =
 
 -- compaction
 
-pub compact-answer : (t : List ℕ) (n : ℕ) → compact_answer t n ≡ if◌then◌else◌ (ledger_malformed t n) (L.Refused R.LedgerMalformed) (L.Accepted (length (standing (lines_of n t))))
+pub compact-answer : (t : List ℕ) (n : ℕ) → compact_answer t n ≡ if◌then◌else◌ (ledger_malformed t n) (Err R.LedgerMalformed) (Ok (length (standing (lines_of n t))))
 unfolding compact_answer
 compact-answer t n = refl
 

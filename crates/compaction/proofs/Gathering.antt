@@ -1,7 +1,7 @@
 -- The pass that gathers the standing lines, from the last line to the first.
 -- Assumes nothing.
 use mathlib.Core.Path.{◌≡◌, refl, sym, ap, ◌∙◌}
-use mathlib.Core.Bool.{Bool, true, false, not, ◌&&◌, ◌||◌}
+use mathlib.Core.Bool.{Bool, true, false, not, ◌&&◌}
 use mathlib.Core.List.{List, [], ◌∷◌, ◌++◌, append_assoc}
 use Prim.Native.Nat.{ℕ, suc, pred, ◌+◌, ◌-◌, ◌*◌, ◌/◌, ◌≤◌, ◌<◌}
 use native.Mathlib.Nat.{add-zero}
@@ -10,11 +10,10 @@ use lib.ListN.{length, take, drop, get_or, length-take, length-drop, get_or-eq_d
 use lib.Seq.{take-add, take-take, drop_at, take-append-le, length-take-le, get_or-take, get_or-drop}
 use lib.Dec.{eqb, ltb}
 use borrow.Author.Tests.{lt-ltb, le-ltb, ltb-true, ltb-false, eq-eqb, ne_eqb}
-use Rattle.std.specs.Prelude.{if◌then◌else◌}
+use Rattle.std.specs.Prelude.{if◌then◌else◌, None, Option, Some}
+use Rattle.std.specs.List.{copy_within}
 use Rattle.lists.specs.Bytes.{big}
 use Rattle.ledger.specs.declared.Line.{Line}
-use Rattle.ledger.specs.declared.LineAnswer.{LineAnswer}
-use Rattle.ledger.specs.declared.LineAnswer.TheVariants.{WellFormed, Malformed}
 use Rattle.ledger.specs.Lines.{line_bytes, lines_bytes, line_of, fields_of, lines_of, bytes_at, some_malformed}
 use Rattle.ledger.specs.Standing.{withdraws, standing}
 use Rattle.ledger.specs.Ledger.{capacity, with_line}
@@ -22,8 +21,7 @@ use Rattle.ledger.proofs.Packing.{bytes-of-line, kind-byte}
 use Rattle.ledger.proofs.StandingLaws.{depth, cancelled-is, depth_small}
 use Rattle.ledger.proofs.Scanning.{lines-from, malformed-from, malformed-later, line-fields, length-lines}
 use Rattle.ledger.proofs.Appending.{length-appended}
-use Rattle.splice.specs.Moves.{moved, copied}
-use Rattle.splice.proofs.Fits.{copy-fits}
+use Rattle.splice.specs.Moves.{moved}
 use Rattle.compaction.specs.Gather.{Gathered}
 
 -- the lines from index i on
@@ -83,6 +81,11 @@ part_small t j small i = go (ltb i 16) refl
         let h : length (bytes_at t j) ≤ i = omega (arith, length-take 16 (drop (j * 16) t), ltb-false i 16 e) in
         rw (get_or-eq_default (bytes_at t j) 0 h) (omega arith)
 
+-- as std has it
+pub copied-is : (t : List ℕ) (j to : ℕ) → copy_within t (j * 16) (j * 16 + 16) to ≡ moved t (j * 16) to 16
+unfolding moved
+copied-is t j to = let n : j * 16 + 16 - j * 16 ≡ 16 = omega arith in rw (n, append_assoc)
+
 -- copied to place k, they are the line written there
 copied-line : (t : List ℕ) (j k : ℕ) (l : Line) → line_bytes l ≡ bytes_at t j → moved t (j * 16) (k * 16) 16 ≡ with_line t k l
 unfolding moved with_line
@@ -123,7 +126,7 @@ module _ {t₀ t : List ℕ} {n skip to i : ℕ} (g : Gathering t₀ n t skip to
   fewer = sym (take-take (j * 16) (suc j * 16) t (omega arith)) ∙ rw same-before (take-take (j * 16) (suc j * 16) t₀ (omega arith))
 
   -- no line is malformed
-  never-malformed : line_of (bytes_at t j) ≡ Malformed → ⊥
+  never-malformed : line_of (bytes_at t j) ≡ None → ⊥
   never-malformed m =
       let bad : some_malformed (n - j) (drop (j * 16) t₀) ≡ true = malformed-from t₀ n j inside ∙ rw (← here, m) in
       let all : some_malformed n t₀ ≡ true = malformed-later t₀ n j (omega (arith, inside)) bad in
@@ -133,12 +136,12 @@ module _ {t₀ t : List ℕ} {n skip to i : ℕ} (g : Gathering t₀ n t skip to
   abbrev l : Line
   l = fields_of (big (bytes_at t j))
 
-  read : line_of (bytes_at t j) ≡ WellFormed l
+  read : line_of (bytes_at t j) ≡ Some l
   read = go (line_of (bytes_at t j)) refl
     where
-      go : (a : LineAnswer) → line_of (bytes_at t j) ≡ a → line_of (bytes_at t j) ≡ WellFormed l
-      go (WellFormed x) e = e ∙ ap WellFormed (line-fields (bytes_at t j) x e)
-      go Malformed e = absurd (never-malformed e)
+      go : (a : Option Line) → line_of (bytes_at t j) ≡ a → line_of (bytes_at t j) ≡ Some l
+      go (Some x) e = e ∙ ap Some (line-fields (bytes_at t j) x e)
+      go None e = absurd (never-malformed e)
 
   now : lines_from t₀ n j ≡ l ∷ lines_from t₀ n i
   now = lines-from t₀ n j inside ∙ rw (← here, ← e)
@@ -184,7 +187,7 @@ module _ {t₀ t : List ℕ} {n skip to i : ℕ} (g : Gathering t₀ n t skip to
         }
 
     -- a line that stands
-    pub gathering-stay : (get_or t (j * 16) 0 / 64 ≡ 2 → ⊥) → skip ≤ 0 → Gathering t₀ n (copied t (j * 16) ((to - 1) * 16) 16) skip (to - 1) j
+    pub gathering-stay : (get_or t (j * 16) 0 / 64 ≡ 2 → ⊥) → skip ≤ 0 → Gathering t₀ n (moved t (j * 16) ((to - 1) * 16) 16) skip (to - 1) j
     gathering-stay other h =
         let w : withdraws l ≡ false = kind-is ∙ ne_eqb (get_or t (j * 16) 0 / 64) 2 other in
         let deep : depth (lines_from t₀ n i) ≤ 0 = omega (arith, g.deep) in
@@ -195,7 +198,7 @@ module _ {t₀ t : List ℕ} {n skip to i : ℕ} (g : Gathering t₀ n t skip to
         let long : k * 16 ≤ length t = omega arith in
         let same : line_bytes l ≡ bytes_at t j = bytes-of-line (bytes_at t j) l (length_at t j there) (part_small t j small) read in
         let st : standing (lines_from t₀ n j) ≡ l ∷ standing (lines_from t₀ n i) = rw (now, standing-more l (lines_from t₀ n i), w, c) in
-        rw (copy-fits t (j * 16) (k * 16) 16 (rw g.size (omega (arith, g.fits, inside))) (omega arith), copied-line t j k l same)
+        rw (copied-line t j k l same)
         (record {
           fits = g.fits;
           well = g.well;

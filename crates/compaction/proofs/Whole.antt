@@ -1,17 +1,16 @@
 -- Compaction as the function makes it: the standing lines gathered, moved to the front, and zeros behind them.
 -- Assumes nothing.
 use mathlib.Core.Path.{◌≡◌, refl, sym, ap, ◌∙◌}
-use mathlib.Core.Bool.{true, false, ◌||◌}
-use mathlib.Core.List.{List, ◌∷◌, ◌++◌, append_assoc}
-use Prim.Native.Nat.{ℕ, ◌+◌, ◌-◌, ◌*◌, ◌≤◌, ◌<◌}
+use mathlib.Core.Bool.{true, false}
+use mathlib.Core.List.{List, ◌++◌, append_assoc}
+use Prim.Native.Nat.{ℕ, ◌+◌, ◌-◌, ◌*◌, ◌≤◌}
 use native.Mathlib.Omega.{arith}
 use lib.ListN.{length, take, drop}
 use lib.Seq.{take-add, take_at, drop_at, drop-drop, length-take-le}
-use Rattle.std.specs.Prelude.{if◌then◌else◌}
+use Rattle.std.specs.Prelude.{Err, Ok}
 use Rattle.lists.specs.Bytes.{zeros}
 use Rattle.refusal.specs.declared.Refusal.TheVariants as R
 use Rattle.ledger.specs.declared.Line.{Line}
-use Rattle.ledger.specs.declared.LedgerAnswer.TheVariants as L
 use Rattle.ledger.specs.Lines.{lines_of, lines_bytes}
 use Rattle.ledger.specs.Standing.{standing}
 use Rattle.ledger.specs.Ledger.{ledger_malformed}
@@ -32,7 +31,7 @@ compacted-parts : (ls : List Line) (r : List ℕ) → compacted ls r ≡ lines_b
 unfolding compacted
 compacted-parts ls r = refl
 
-pub compact-refused : (t : List ℕ) (n : ℕ) → ledger_malformed t n ≡ true → (L.Refused R.LedgerMalformed ≡ compact_answer t n) × (t ≡ compact_bytes t n)
+pub compact-refused : (t : List ℕ) (n : ℕ) → ledger_malformed t n ≡ true → (Err R.LedgerMalformed ≡ compact_answer t n) × (t ≡ compact_bytes t n)
 compact-refused t n m = (sym (compact-answer t n ∙ rw m), sym (compact-bytes t n ∙ rw m))
 
 module _ (t : List ℕ) (n : ℕ) (g : List ℕ) (to : ℕ) (d : List ℕ) (well : ledger_malformed t n ≡ false) (gathered : Gathered t n g to) where
@@ -58,7 +57,7 @@ module _ (t : List ℕ) (n : ℕ) (g : List ℕ) (to : ℕ) (d : List ℕ) (well
       ap (λ (k : ℕ). drop k g) whole ∙ sym (drop-drop (count * 16) (to * 16) g) ∙ ap (drop (count * 16)) gathered.lines
       ∙ drop_at (lines_bytes st) (drop (n * 16) t) (count * 16) (length-lines-bytes st)
 
-  pub compact-done : d ≡ without_front (take (n * 16) g) (to * 16) → (L.Accepted (n - to) ≡ compact_answer t n) × (d ++ drop (n * 16) g ≡ compact_bytes t n)
+  pub compact-done : d ≡ without_front (take (n * 16) g) (to * 16) → (Ok (n - to) ≡ compact_answer t n) × (d ++ drop (n * 16) g ≡ compact_bytes t n)
   compact-done e =
       let k : n - to ≡ count = omega (arith, gathered.count) in
       let z : (length (lines_of n t) - count) * 16 ≡ to * 16 = omega (arith, length-lines n t, gathered.count) in

@@ -1,10 +1,9 @@
 -- Request A8, compaction: a ledger of its standing lines alone.
-use Rattle.std.specs.Prelude.{ℕ, ◌-◌, ◌*◌, List, ◌++◌, length, drop, if◌then◌else◌}
+use Rattle.refusal.specs.declared.Refusal.{Refusal}
+use Rattle.std.specs.Prelude.{ℕ, ◌-◌, ◌*◌, List, ◌++◌, length, drop, if◌then◌else◌, Err, Ok, Result}
 use Rattle.lists.specs.Bytes.{zeros}
 use Rattle.refusal.specs.declared.Refusal.TheVariants as R
 use Rattle.ledger.specs.declared.Line.{Line}
-use Rattle.ledger.specs.declared.LedgerAnswer.{LedgerAnswer}
-use Rattle.ledger.specs.declared.LedgerAnswer.TheVariants as L
 use Rattle.ledger.specs.Lines.{lines_of, lines_bytes}
 use Rattle.ledger.specs.Standing.{standing}
 use Rattle.ledger.specs.Ledger.{ledger_malformed}
@@ -19,11 +18,11 @@ unfolding lines_bytes standing
 compacted ls behind = lines_bytes (standing ls) ++ behind_standing ls behind
 
 -- the answer: 20; otherwise how many lines stand
-unfoldable pub compact_answer : List ℕ → ℕ → LedgerAnswer
+unfoldable pub compact_answer : List ℕ → ℕ → Result ℕ Refusal
 unfolding ledger_malformed lines_of standing
 compact_answer t lines =
-    if ledger_malformed t lines then L.Refused R.LedgerMalformed else
-    L.Accepted (length (standing (lines_of lines t)))
+    if ledger_malformed t lines then Err R.LedgerMalformed else
+    Ok (length (standing (lines_of lines t)))
 
 -- the bytes after it; a refused one leaves every byte
 unfoldable pub compact_bytes : List ℕ → ℕ → List ℕ

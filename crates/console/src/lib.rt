@@ -16,7 +16,7 @@ pub fn output(rt: &HostRuntime) -> io::Result<Output> {
     BufWriter::new(rt.alloc(), rt.stdout())
 }
 
-// Reads until the buffer is full or the stream ends. The answer: how many bytes, which are the front of what the stream had left.
+// Reads until the buffer is full or the stream ends, by a while: each read gives as many bytes as it likes, so nothing counts the turns. The answer: how many bytes, which are the front of what the stream had left.
 pub fn read_full<R: Read>(from: &mut R, buf: &mut [u8]) -> io::Result<usize>
     ensures bound { IfOk result (λ n. n ≤ length buf.new) }
     ensures length { length buf.new ≡ length buf.old }

@@ -1,6 +1,8 @@
 -- The ways through an image: refusals 10 and 11, and the part that is loaded.
 -- Assumes nothing.
-use mathlib.Core.Path.{◌≡◌, refl, ◌∙◌}
+use Rattle.std.specs.Prelude.{Err, Ok}
+use Rattle.layout.specs.Layout.{frame_read}
+use mathlib.Core.Path.{◌≡◌}
 use mathlib.Core.List.{List, ◌++◌}
 use Prim.Native.Nat.{ℕ, ◌+◌, ◌-◌, ◌*◌, ◌≤◌, ◌<◌}
 use native.Mathlib.Omega.{arith}
@@ -10,12 +12,11 @@ use borrow.Author.Tests.{lt-ltb, le-ltb}
 use Rattle.layout.specs.declared.Width.{Width}
 use Rattle.layout.specs.declared.Width.TheVariants as W
 use Rattle.layout.specs.Form.{width_bytes}
-use Rattle.layout.specs.Layout.{pixel_count, image_end}
+use Rattle.layout.specs.Layout.{pixel_count}
 use Rattle.byte_order.specs.Numbers.{numbers}
 use Rattle.byte_order.proofs.Laws.{numbers-take}
 use Rattle.dtrek_header.specs.declared.DtrekHeader.{DtrekHeader}
 use Rattle.refusal.specs.declared.Refusal.TheVariants as R
-use Rattle.dtrek_image.specs.declared.DtrekAnswer.TheVariants as A
 use Rattle.dtrek_image.specs.DtrekImage.{stored_pixels, image_answer, image_pixels}
 
 -- n numbers are at most four times as many bytes
@@ -25,12 +26,12 @@ bytes_le n W.Two e = rw e (omega arith)
 bytes_le n W.Four e = rw e (omega arith)
 
 module _ (bytes px : List ℕ) (h : DtrekHeader) where
-  pub short : (n : ℕ) → n ≡ pixel_count h.image → length px < n → (A.Refused R.PixelArrayShort ≡ image_answer bytes h (length px)) × (px ≡ image_pixels bytes h px)
+  pub short : (n : ℕ) → n ≡ pixel_count h.image → length px < n → (Err R.PixelArrayShort ≡ image_answer bytes h (length px)) × (px ≡ image_pixels bytes h px)
   unfolding image_answer image_pixels
   short n e l = (rw (← e, lt-ltb _ _ l), rw (← e, lt-ltb _ _ l))
 
   module _ (n w : ℕ) (e : n ≡ pixel_count h.image) (f : w ≡ width_bytes h.image.width) (l : n ≤ length px) where
-    pub truncated : length bytes < h.image.start + n * w → (A.Refused R.DataTruncated ≡ image_answer bytes h (length px)) × (px ≡ image_pixels bytes h px)
+    pub truncated : length bytes < h.image.start + n * w → (Err R.DataTruncated ≡ image_answer bytes h (length px)) × (px ≡ image_pixels bytes h px)
     unfolding image_answer image_pixels
     truncated k = (rw (← e, ← f, le-ltb _ _ l, lt-ltb _ _ k), rw (← e, ← f, le-ltb _ _ l, lt-ltb _ _ k))
 
@@ -50,7 +51,7 @@ module _ (bytes px : List ℕ) (h : DtrekHeader) where
           rw (← e, ← f, length-take-le n px l, s, numbers-take h.order w n (n * w) (drop h.image.start bytes) (omega arith))
 
       pub framed : (out : List ℕ) → out ≡ numbers h.order (width_bytes h.image.width) (length (take n px)) part
-          → (A.Read h.image.rows h.image.columns (h.image.start + n * w) ≡ image_answer bytes h (length px)) × (out ++ drop n px ≡ image_pixels bytes h px)
+          → (Ok (frame_read h.image.rows h.image.columns (h.image.start + n * w)) ≡ image_answer bytes h (length px)) × (out ++ drop n px ≡ image_pixels bytes h px)
       unfolding image_answer image_pixels
       framed out q =
           (rw (← e, ← f, le-ltb _ _ l, le-ltb _ _ k), rw (q, stored, ← e, ← f, le-ltb _ _ l, le-ltb _ _ k))

@@ -2,55 +2,34 @@
 -- Assumes nothing.
 use mathlib.Core.Path.{◌≡◌, refl, sym, ap, ◌∙◌}
 use mathlib.Core.Bool.{Bool, true, false, ◌||◌}
-use mathlib.Core.List.{List, [], ◌∷◌, ◌++◌, map}
-use mathlib.Core.Logic.{⊎_elim}
+use mathlib.Core.List.{List, [], ◌∷◌, ◌++◌}
 use Prim.Native.Nat.{ℕ, zero, suc, ◌+◌, ◌-◌, ◌≤◌, ◌<◌}
 use native.Mathlib.Omega.{arith}
-use lib.ListN.{length, get_or, take, drop, set, length-set, length-take, length-drop, length-append, get_or-append}
-use lib.Seq.{get_or-set_same, get_or-set_other, get_or-take, get_or-drop, get_or-append-add, ext_get_or, take-take, length-take-le}
+use lib.ListN.{length, get_or, take, drop, set, length-set, length-drop, length-append, get_or-append}
+use lib.Seq.{get_or-set_same, get_or-set_other, get_or-take, get_or-drop, get_or-append-add, ext_get_or, length-take-le}
 use Rattle.lists.specs.Bytes.{same_bytes}
-use Rattle.lists.proofs.Parts.{drop-take}
 use Rattle.dtrek_text.specs.Bytes.{keyword_at}
-use Rattle.dtrek_items.specs.declared.Order.{Order}
-use Rattle.dtrek_items.specs.declared.Order.TheVariants as O
-use Rattle.dtrek_items.specs.Keys.{compared, keys_at, has_key, key_at, Rising, Between, Inserted}
-use Rattle.dtrek_items.proofs.Ordering.{Two, two, lower, equal, higher, flip-before, flip-after, before-trans, same_by}
+use Rattle.std.specs.Prelude.{Result, Ok, Err}
+use Rattle.std.specs.declared.cmp.Ordering.{Ordering}
+use Rattle.std.specs.declared.cmp.Ordering.TheVariants.{Less, Equal, Greater}
+use Rattle.std.specs.Ordering.{ordering_index}
+use Rattle.std.specs.Result.{result_err}
+use Rattle.std.specs.List.{CopiedTo, SameBelow}
+use Rattle.std.specs.List.Sorted.{IsNonDecreasingBy, IsBinarySearchResult, IsSearchInRange}
+use Rattle.std.proofs.lemmas.List.Sorted.{IsNonDecreasingBy-from_default}
+use Rattle.std.proofs.lemmas.Cmp.{nat_list_cmp_total}
+use Rattle.dtrek_items.specs.Keys.{compared, keys_at, has_key, key_at, Rising, Between, Sought, Inserted}
+use Rattle.dtrek_items.proofs.Ordering.{Two, two, lower, equal, higher, reversed, before-trans, same_by}
 
--- the places after j stand one later
-pub record Shifting (ps : List ℕ) (k i : ℕ) (qs : List ℕ) (j : ℕ) : Type 0 where
-  pub same : length qs ≡ length ps
-  pub from : i ≤ j
-  pub upto : j ≤ k
-  pub low : (m : ℕ) → m ≤ j → get_or qs m 0 ≡ get_or ps m 0
-  pub high : (m : ℕ) → j < m → m ≤ k → get_or qs m 0 ≡ get_or ps (m - 1) 0
-
-pub shifting-start : (ps : List ℕ) (k i : ℕ) → i ≤ k → Shifting ps k i ps k
-shifting-start ps k i h = record { same = refl; from = h; upto = omega arith; low = λ m l. refl; high = λ m l g. absurd (omega arith) }
-
-module _ {ps qs : List ℕ} {k i j : ℕ} (f : Shifting ps k i qs j) (r : k < length ps) where
-  shifted_at : i < j → (m : ℕ) → j - 1 < m → m ≤ k → Two m j → get_or (set qs j (get_or qs (j - 1) 0)) m 0 ≡ get_or ps (m - 1) 0
-  shifted_at h m l g (lower x) = absurd (omega arith)
-  shifted_at h m l g (equal x) = rw x (get_or-set_same qs j (get_or qs (j - 1) 0) 0 (omega (arith, f.same, f.upto)) ∙ f.low (j - 1) (omega arith))
-  shifted_at h m l g (higher x) = get_or-set_other qs j m (get_or qs (j - 1) 0) 0 (λ e. omega arith) ∙ f.high m x g
-
-  pub shifting-turn : i < j → Shifting ps k i (set qs j (get_or qs (j - 1) 0)) (j - 1)
-  shifting-turn h = record {
-    same = length-set qs j (get_or qs (j - 1) 0) ∙ f.same;
-    from = omega arith;
-    upto = omega (arith, f.upto);
-    low = λ m l. get_or-set_other qs j m (get_or qs (j - 1) 0) 0 (λ e. omega arith) ∙ f.low m (omega arith);
-    high = λ m l g. shifted_at h m l g (two m j);
+-- the places from i on moved one up, and the new one put in
+module _ {ps : List ℕ} (qs : List ℕ) {k i : ℕ} (h : i ≤ k) (r : k < length ps) (n : length qs ≡ length ps) (moved : CopiedTo ps qs i (i + 1) (k - i)) (below : SameBelow ps qs (i + 1)) where
+  pub inserted : (start : ℕ) → Inserted ps k i start (set qs i start)
+  inserted start = record {
+    same = length-set qs i start ∙ n;
+    low = λ m l. get_or-set_other qs i m start 0 (λ e. omega arith) ∙ below m 0 (omega arith);
+    here = get_or-set_same qs i start 0 (omega arith);
+    high = λ m l g. get_or-set_other qs i m start 0 (λ e. omega arith) ∙ moved m 0 (omega arith) (omega arith) ∙ ap (λ (j : ℕ). get_or ps j 0) (omega arith);
   }
-
-  pub shifting-end : (start : ℕ) → j ≤ i → Inserted ps k i start (set qs i start)
-  shifting-end start h =
-      let e : j ≡ i = omega (arith, f.from) in
-      record {
-        same = length-set qs i start ∙ f.same;
-        low = λ m l. get_or-set_other qs i m start 0 (λ e. omega arith) ∙ f.low m (omega arith);
-        here = get_or-set_same qs i start 0 (omega (arith, f.same, f.upto));
-        high = λ m l g. get_or-set_other qs i m start 0 (λ e. omega arith) ∙ f.high m (omega arith) g;
-      }
 
 -- the first k + 1 places after it
 module _ {ps qs : List ℕ} {k i start : ℕ} (f : Inserted ps k i start qs) (h : i ≤ k) (r : k < length ps) where
@@ -145,39 +124,30 @@ free-differs {text} {ps} {key} f j l (higher x) = same_by (key_at text ps j) key
 pub free-none : {text ps key : List ℕ} {i : ℕ} → Between text ps key i → has_key key (keys_at text ps) ≡ false
 free-none {text} {ps} {key} {i} f = has-none text key ps (λ j l. free-differs f j l (two j i))
 
--- what is looked for lies between low and high
-pub record Searching (text ps key : List ℕ) (low high : ℕ) : Type 0 where
-  pub order : low ≤ high
-  pub upto : high ≤ length ps
-  pub before : (j : ℕ) → j < low → compared (key_at text ps j) key ≡ O.Before
-  pub after : (j : ℕ) → high ≤ j → j < length ps → compared (key_at text ps j) key ≡ O.After
+-- where the keywords rise, so do their answers to a comparison with the key
+risen : (text key ps : List ℕ) (i j : ℕ) (o : Ordering) → compared (key_at text ps i) key ≡ o → compared (key_at text ps i) (key_at text ps j) ≡ Less → ordering_index o ≤ ordering_index (compared (key_at text ps j) key)
+risen text key ps i j Less e l = omega arith
+risen text key ps i j Equal e l =
+    let q : compared key (key_at text ps j) ≡ Less = sym (nat_list_cmp_total.congr (key_at text ps i) key (key_at text ps j) e) ∙ l in
+    rw (reversed key (key_at text ps j) q) (omega arith)
+risen text key ps i j Greater e l =
+    let q = before-trans key (key_at text ps i) (key_at text ps j) (reversed (key_at text ps i) key e) l in
+    rw (reversed key (key_at text ps j) q) (omega arith)
 
-pub searching-start : (text ps key : List ℕ) → Searching text ps key 0 (length ps)
-searching-start text ps key = record { order = omega arith; upto = omega arith; before = λ j h. absurd (omega arith); after = λ j h l. absurd (omega arith) }
+pub rising-index : (text key ps : List ℕ) → Rising text ps → IsNonDecreasingBy (λ p. ordering_index (compared (keyword_at text p) key)) ps
+rising-index text key ps rising = IsNonDecreasingBy-from_default (λ p. ordering_index (compared (keyword_at text p) key)) ps 0 (λ i j h l. go i j h l (two i j))
+  where
+    go : (i j : ℕ) → i ≤ j → j < length ps → Two i j → ordering_index (compared (key_at text ps i) key) ≤ ordering_index (compared (key_at text ps j) key)
+    go i j h l (lower x) = risen text key ps i j _ refl (rising i j x l)
+    go i j h l (equal x) = rw x (omega arith)
+    go i j h l (higher x) = absurd (omega arith)
 
-module _ {text ps key : List ℕ} {low high : ℕ} (f : Searching text ps key low high) (rising : Rising text ps) (m : ℕ) (a : low ≤ m) (b : m < high) where
-  lower-at : compared (key_at text ps m) key ≡ O.Before → (j : ℕ) → j < m + 1 → Two j m → compared (key_at text ps j) key ≡ O.Before
-  lower-at e j h (lower x) = before-trans (key_at text ps j) (key_at text ps m) key (rising j m x (omega (arith, f.upto))) e
-  lower-at e j h (equal x) = rw x e
-  lower-at e j h (higher x) = absurd (omega arith)
-
-  pub search-higher : compared (key_at text ps m) key ≡ O.Before → Searching text ps key (m + 1) high
-  search-higher e = record { order = omega arith; upto = f.upto; before = λ j h. lower-at e j h (two j m); after = f.after }
-
-  higher-at : compared (key_at text ps m) key ≡ O.After → (j : ℕ) → m ≤ j → j < length ps → Two m j → compared (key_at text ps j) key ≡ O.After
-  higher-at e j h l (lower x) =
-      flip-before key (key_at text ps j) (before-trans key (key_at text ps m) (key_at text ps j) (flip-after (key_at text ps m) key e) (rising m j x l))
-  higher-at e j h l (equal x) = rw (sym x) e
-  higher-at e j h l (higher x) = absurd (omega arith)
-
-  pub search-lower : compared (key_at text ps m) key ≡ O.After → Searching text ps key low m
-  search-lower e = record { order = a; upto = omega (arith, f.upto); before = f.before; after = λ j h l. higher-at e j h l (two m j) }
-
-  pub search-here : compared (key_at text ps m) key ≡ O.Same → has_key key (keys_at text ps) ≡ true
-  search-here e = has-at text key ps m (omega (arith, f.upto)) (same_by (key_at text ps m) key e)
-
-pub search-end : {text ps key : List ℕ} {low high : ℕ} → Searching text ps key low high → high ≤ low → Between text ps key low
-search-end f h = record { upto = omega (arith, f.order, f.upto); low = f.before; high = λ j g l. f.after j (omega (arith, f.order)) l }
+-- what a binary search by the keywords answers
+pub searched : (text ps key : List ℕ) (r : Result ℕ ℕ) → Rising text ps → IsSearchInRange r (length ps) → IsBinarySearchResult (λ p. compared (keyword_at text p) key) ps r → Sought text ps key (result_err r)
+searched text ps key (Ok i) rising h s = has-at text key ps i h (same_by (key_at text ps i) key (s 0))
+searched text ps key (Err i) rising h s =
+    let p = s (rising-index text key ps rising) in
+    record { upto = h; low = λ j l. p.0 j 0 (omega arith) l; high = λ j g l. p.1 j 0 g l }
 
 -- the places with the new one are in order again
 module _ {text ps qs key : List ℕ} {k i start : ℕ} (f : Inserted ps k i start qs) (w : Between text (take k ps) key i) (h : i ≤ k) (r : k < length ps) (e : keyword_at text start ≡ key) (rising : Rising text (take k ps)) where
@@ -199,14 +169,14 @@ module _ {text ps qs key : List ℕ} {k i start : ℕ} (f : Inserted ps k i star
   new-high : (m : ℕ) → i < m → m < suc k → key_at text (take (suc k) qs) m ≡ key_at text (take k ps) (m - 1)
   new-high m l g = new m g ∙ ap (keyword_at text) (f.high m l (omega arith)) ∙ sym (old (m - 1) (omega arith))
 
-  rising-by : (x y : ℕ) → x < y → y < suc k → Two x i → Two y i → compared (key_at text (take (suc k) qs) x) (key_at text (take (suc k) qs) y) ≡ O.Before
+  rising-by : (x y : ℕ) → x < y → y < suc k → Two x i → Two y i → compared (key_at text (take (suc k) qs) x) (key_at text (take (suc k) qs) y) ≡ Less
   rising-by x y l g (lower a) (lower b) = rw (new-low x a, new-low y b) (rising x y l (omega (arith, count)))
   rising-by x y l g (lower a) (equal b) = rw (new-low x a, b, new-here) (w.low x a)
   rising-by x y l g (lower a) (higher b) = rw (new-low x a, new-high y b g) (rising x (y - 1) (omega arith) (omega (arith, count)))
   rising-by x y l g (equal a) (lower b) = absurd (omega arith)
   rising-by x y l g (equal a) (equal b) = absurd (omega arith)
   rising-by x y l g (equal a) (higher b) =
-      rw (a, new-here, new-high y b g) (flip-after (key_at text (take k ps) (y - 1)) key (w.high (y - 1) (omega arith) (omega (arith, count))))
+      rw (a, new-here, new-high y b g) (reversed (key_at text (take k ps) (y - 1)) key (w.high (y - 1) (omega arith) (omega (arith, count))))
   rising-by x y l g (higher a) (lower b) = absurd (omega arith)
   rising-by x y l g (higher a) (equal b) = absurd (omega arith)
   rising-by x y l g (higher a) (higher b) = rw (new-high x a (omega arith), new-high y b g) (rising (x - 1) (y - 1) (omega arith) (omega (arith, count)))

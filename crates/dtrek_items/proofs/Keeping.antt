@@ -1,6 +1,6 @@
 -- A keyword twice, found by keeping the keywords that were read.
 -- Assumes nothing.
-use mathlib.Core.Path.{◌≡◌, refl, sym, ap, ◌∙◌}
+use mathlib.Core.Path.{◌≡◌, refl, sym, ◌∙◌}
 use mathlib.Core.Bool.{Bool, true, false, ◌||◌}
 use mathlib.Core.List.{List, [], ◌∷◌}
 use Prim.Native.Nat.{ℕ, suc, ◌+◌, ◌*◌, ◌≤◌, ◌<◌}
@@ -10,7 +10,7 @@ use lib.ListN.{length, take, drop}
 use lib.Seq.{length-take-le}
 use Rattle.lists.specs.Bytes.{same_bytes}
 use Rattle.dtrek_text.specs.declared.Cursor.{Cursor}
-use Rattle.dtrek_text.specs.Bytes.{between, keyword_at}
+use Rattle.dtrek_text.specs.Bytes.{between}
 use Rattle.dtrek_text.specs.Items.{Item, items}
 use Rattle.dtrek_items.specs.Lookup.{has, repeated}
 use Rattle.dtrek_text.proofs.Scans.{Stands}

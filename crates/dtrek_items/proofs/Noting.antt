@@ -1,27 +1,27 @@
 -- Contents noted on the way through the items: what is noted, and what is still to come, give each keyword's value.
 -- Assumes nothing.
-use mathlib.Core.Path.{◌≡◌, refl, sym, ap, ◌∙◌}
+use mathlib.Core.Path.{◌≡◌, refl, sym, ◌∙◌}
 use mathlib.Core.Bool.{Bool, true, false, not, ◌||◌}
 use mathlib.Core.List.{List, []}
-use Prim.Native.Nat.{ℕ, suc, ◌+◌, ◌-◌, ◌*◌, ◌≤◌, ◌<◌}
+use Prim.Native.Nat.{ℕ, suc, ◌+◌, ◌-◌, ◌*◌, ◌≤◌}
 use native.Mathlib.Numerals.{add-one}
 use native.Mathlib.Omega.{arith}
-use borrow.Author.Tests.{ne_eqb, eqb-true}
-use lib.Dec.{eqb}
-use lib.ListN.{length, take, drop, length-drop, drop_of_length-le}
-use lib.Seq.{take_all, take-nil}
-use Rattle.std.specs.Prelude.{if◌then◌else◌}
+use borrow.Author.Tests.{leb-true, leb-false}
+use lib.Dec.{leb}
+use lib.ListN.{length, take, drop, length-drop}
+use lib.Seq.{take_all}
+use Rattle.std.specs.Prelude.{if◌then◌else◌, min, Option, Some, None}
 use Rattle.lists.specs.Text.{codes}
 use Rattle.lists.specs.Bytes.{same_bytes}
 use Rattle.dtrek_text.specs.declared.Cursor.{Cursor}
 use Rattle.dtrek_text.specs.Bytes.{between, trim_end, trimmed}
 use Rattle.dtrek_text.specs.Parts.{is_end}
-use Rattle.dtrek_text.specs.Items.{Item, items, well_written}
+use Rattle.dtrek_text.specs.Items.{items, well_written}
 use Rattle.dtrek_text.proofs.Scans.{Stands, Spoils, Closes}
 use Rattle.dtrek_items.specs.declared.Content.{Content}
 use Rattle.dtrek_items.specs.declared.Contents.{Contents}
 use Rattle.dtrek_items.specs.Lookup.{has, value_of, repeated}
-use Rattle.dtrek_items.specs.Survey.{is_malformed, is_there, value_at, Under, Found, Sound, no_content, no_contents, noted, noted_all}
+use Rattle.dtrek_items.specs.Survey.{is_malformed, is_there, value_at, Under, Found, Sound, no_contents, noted, noted_all}
 use Rattle.dtrek_items.specs.Keys.{Between, Inserted}
 use Rattle.dtrek_items.proofs.Keeping.{Keeping, keeping_start, keeping-more, keeping-end}
 
@@ -43,38 +43,31 @@ module _ (key : List ℕ) {text : List ℕ} {at start end stop : ℕ} {next : Cu
   value-later e = rw (s.first, e)
 
 -- one keyword, by what is noted under it and the items from `at` on
-pub record Looked (text key : List ℕ) (at : ℕ) (c : Content) : Type 0 where
+pub record Looked (text key : List ℕ) (at : ℕ) (c : Option Content) : Type 0 where
   pub value : if◌then◌else◌ (is_there c) (value_at text c) (value_of key (items (drop at text))) ≡ value_of key (items text)
   pub there : (is_there c || has key (items (drop at text))) ≡ has key (items text)
 
-looked-start : (text key : List ℕ) → Looked text key 0 no_content
+looked-start : (text key : List ℕ) → Looked text key 0 None
 looked-start text key = record { value = refl; there = refl }
 
-module _ {text key : List ℕ} {at start end stop : ℕ} {next : Cursor} {c : Content} (s : Stands text at start end stop next) (r : Looked text key at c) where
-  looked-by : (z w : Bool) → eqb c.stop 0 ≡ z → same_bytes (between start end text) key ≡ w → Looked text key next.at (if◌then◌else◌ (not z) c (if◌then◌else◌ w (record { from = suc end; stop = stop }) c))
-  looked-by false w e q = record { value = rw e (rw e at r.value); there = rw e (rw e at r.there) }
-  looked-by true true e q =
-      let n : eqb stop 0 ≡ false = ne_eqb stop 0 (λ z. omega (arith, s.before)) in
-      record { value = rw n (value-here key s q ∙ rw e at r.value); there = rw n (has_here key s q ∙ rw e at r.there) }
-  looked-by true false e q = record { value = rw e (sym (value-later key s q) ∙ rw e at r.value); there = rw e (sym (has-later key s q) ∙ rw e at r.there) }
+module _ {text key : List ℕ} {at start end stop : ℕ} {next : Cursor} (s : Stands text at start end stop next) where
+  looked-by : (c : Option Content) → Looked text key at c → (w : Bool) → same_bytes (between start end text) key ≡ w → Looked text key next.at (if◌then◌else◌ (is_there c) c (if◌then◌else◌ w (Some (record { from = suc end; stop = stop })) c))
+  looked-by (Some x) r w q = record { value = r.value; there = r.there }
+  looked-by None r true q = record { value = value-here key s q ∙ r.value; there = has_here key s q ∙ r.there }
+  looked-by None r false q = record { value = sym (value-later key s q) ∙ r.value; there = sym (has-later key s q) ∙ r.there }
 
-  looked-more : Looked text key next.at (noted key (between start end text) (record { from = suc end; stop = stop }) c)
+  looked-more : {c : Option Content} → Looked text key at c → Looked text key next.at (noted key (between start end text) (record { from = suc end; stop = stop }) c)
   unfolding noted
-  looked-more = looked-by (eqb c.stop 0) (same_bytes (between start end text) key) refl refl
+  looked-more {c} r = looked-by c r (same_bytes (between start end text) key) refl
 
--- nothing lies between these places
-pub nothing-between : (text : List ℕ) (from stop : ℕ) → stop ≤ from → [] ≡ trimmed (between from stop text)
-unfolding trimmed trim_end
-nothing-between text from stop h = let n : stop - from ≡ 0 = omega arith in rw n
-
-module _ {text key : List ℕ} {at : ℕ} {c : Content} (n : items (drop at text) ≡ []) (r : Looked text key at c) where
-  under-by : (z : Bool) → eqb c.stop 0 ≡ z → Under text key c
+module _ {text key : List ℕ} {at : ℕ} (n : items (drop at text) ≡ []) where
+  under : (c : Option Content) → Looked text key at c → Under text key c
   unfolding value_of has
-  under-by true e = record { value = sym (nothing-between text c.from c.stop (omega (arith, eqb-true c.stop 0 e))) ∙ rw (e, n) at r.value; there = rw e (rw (e, n) at r.there) }
-  under-by false e = record { value = rw e at r.value; there = rw e (rw e at r.there) }
+  under (Some x) r = record { value = r.value; there = r.there }
+  under None r = record { value = rw n at r.value; there = rw n at r.there }
 
-  looked-end : Under text key c
-  looked-end = under-by (eqb c.stop 0) refl
+  looked-end : {c : Option Content} → Looked text key at c → Under text key c
+  looked-end {c} r = under c r
 
 pub record LookedAll (text : List ℕ) (at : ℕ) (f : Contents) : Type 0 where
   pub dim : Looked text (codes "DIM") at f.dim
@@ -144,12 +137,17 @@ whole : (text : List ℕ) (at : ℕ) → take (length text - at) (drop at text) 
 whole text at = take_all (length text - at) (drop at text) (omega (arith, length-drop at text))
 
 -- a content that ends behind the text ends with it
-pub part-past : (text : List ℕ) (from stop : ℕ) → length text ≤ stop → take (length text - from) (drop from text) ≡ between from stop text
-part-past text from stop h = whole text from ∙ sym (take_all (stop - from) (drop from text) (omega (arith, length-drop from text)))
+pub part-within : (text : List ℕ) (from stop end : ℕ) → end ≡ min stop (length text) → take (end - from) (drop from text) ≡ between from stop text
+part-within text from stop end e = go (leb stop (length text)) refl
+  where
+    go : (t : Bool) → leb stop (length text) ≡ t → take (end - from) (drop from text) ≡ between from stop text
+    go true q = let n : end ≡ stop = omega (arith, e, leb-true _ _ q) in rw n
+    go false q = let n : end ≡ length text = omega (arith, e, leb-false _ _ q) in rw n (whole text from ∙ sym (take_all (stop - from) (drop from text) (omega (arith, length-drop from text, leb-false _ _ q))))
 
-pub nothing-behind : (text : List ℕ) (from stop : ℕ) → length text ≤ from → [] ≡ trimmed (between from stop text)
+-- where no part of the text lies between the places, the value is empty
+pub nothing-within : (text : List ℕ) (from stop end : ℕ) → end ≡ min stop (length text) → end ≤ from → [] ≡ trimmed (between from stop text)
 unfolding trimmed trim_end
-nothing-behind text from stop h = rw (drop_of_length-le text h, take-nil (stop - from))
+nothing-within text from stop end e h = let n : end - from ≡ 0 = omega arith in rw (← part-within text from stop end e, n)
 
 module _ {text ps₀ ps : List ℕ} {at k : ℕ} {f : Contents} (v : Surveying text ps₀ ps at k f) where
   pub surveying-bad : Spoils text at → is_malformed text ≡ true

@@ -1,18 +1,15 @@
 -- Keywords in order, by the places where they start. For the contracts of private functions.
-use Rattle.std.specs.Prelude.{ℕ, ◌-◌, ◌≤◌, ◌<◌, ◌≡◌, List, [], ◌∷◌, map, Bool, true, false, ◌||◌, length, get_or, ltb, if◌then◌else◌}
+use Rattle.std.specs.Prelude.{ℕ, ◌-◌, ◌≤◌, ◌<◌, ◌≡◌, List, [], ◌∷◌, map, Bool, true, false, ◌||◌, length, get_or, None, Option, Some}
+use Rattle.std.specs.declared.cmp.Ordering.{Ordering}
+use Rattle.std.specs.declared.cmp.Ordering.TheVariants.{Less, Greater}
+use Rattle.std.specs.Ordering.{nat_cmp}
+use Rattle.std.specs.Cmp.Lexicographic.{slice_cmp}
 use Rattle.lists.specs.Bytes.{same_bytes}
 use Rattle.dtrek_text.specs.Bytes.{keyword_at}
-use Rattle.dtrek_items.specs.declared.Order.{Order}
-use Rattle.dtrek_items.specs.declared.Order.TheVariants as O
-use Rattle.dtrek_items.specs.declared.Slot.{Slot}
-use Rattle.dtrek_items.specs.declared.Slot.TheVariants as S
 
 -- byte by byte; a string comes before those that go on behind it
-unfoldable pub compared : List ℕ → List ℕ → Order
-compared [] [] = O.Same
-compared [] (b ∷ bs) = O.Before
-compared (a ∷ xs) [] = O.After
-compared (a ∷ xs) (b ∷ bs) = if ltb a b then O.Before else if ltb b a then O.After else compared xs bs
+abbrev pub compared : List ℕ → List ℕ → Ordering
+compared xs ys = slice_cmp nat_cmp xs ys
 
 abbrev pub keys_at : List ℕ → List ℕ → List (List ℕ)
 keys_at text ps = map (keyword_at text) ps
@@ -26,17 +23,17 @@ key_at text ps i = keyword_at text (get_or ps i 0)
 
 -- each keyword comes before those at later places
 abbrev pub Rising : List ℕ → List ℕ → Type 0
-Rising text ps = (i j : ℕ) → i < j → j < length ps → compared (key_at text ps i) (key_at text ps j) ≡ O.Before
+Rising text ps = (i j : ℕ) → i < j → j < length ps → compared (key_at text ps i) (key_at text ps j) ≡ Less
 
 -- a free place: the keywords before it come before the key, the others after it
 pub record Between (text ps key : List ℕ) (i : ℕ) : Type 0 where
   pub upto : i ≤ length ps
-  pub low : (j : ℕ) → j < i → compared (key_at text ps j) key ≡ O.Before
-  pub high : (j : ℕ) → i ≤ j → j < length ps → compared (key_at text ps j) key ≡ O.After
+  pub low : (j : ℕ) → j < i → compared (key_at text ps j) key ≡ Less
+  pub high : (j : ℕ) → i ≤ j → j < length ps → compared (key_at text ps j) key ≡ Greater
 
-abbrev pub Sought : List ℕ → List ℕ → List ℕ → Slot → Type 0
-Sought text ps key S.Taken = has_key key (keys_at text ps) ≡ true
-Sought text ps key (S.Free i) = Between text ps key i
+abbrev pub Sought : List ℕ → List ℕ → List ℕ → Option ℕ → Type 0
+Sought text ps key None = has_key key (keys_at text ps) ≡ true
+Sought text ps key (Some i) = Between text ps key i
 
 -- the places from i to k stand one later, and the new one at i
 pub record Inserted (ps : List ℕ) (k i start : ℕ) (qs : List ℕ) : Type 0 where

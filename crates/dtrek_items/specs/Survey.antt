@@ -1,6 +1,7 @@
 -- Request A9: a header's items in one pass. Where the values that are read stand is for the code to choose; what is said of the
 -- places is that they give each keyword's value.
-use Rattle.std.specs.Prelude.{ℕ, ◌≤◌, ◌<◌, ◌≡◌, List, Bool, true, false, not, ◌||◌, length, eqb, if◌then◌else◌}
+use Rattle.std.specs.Prelude.{ℕ, ◌<◌, ◌≡◌, List, [], Bool, true, false, not, ◌||◌, length, if◌then◌else◌, Option, Some, None, Result, Ok, Err}
+use Rattle.std.specs.Option.{is_some}
 use Rattle.lists.specs.Text.{codes}
 use Rattle.lists.specs.Bytes.{same_bytes}
 use Rattle.dtrek_text.specs.Bytes.{between, trimmed}
@@ -8,22 +9,24 @@ use Rattle.dtrek_text.specs.Items.{items, well_written}
 use Rattle.dtrek_items.specs.Lookup.{has, value_of, repeated}
 use Rattle.dtrek_items.specs.declared.Content.{Content}
 use Rattle.dtrek_items.specs.declared.Contents.{Contents}
-use Rattle.dtrek_items.specs.declared.ItemsAnswer.{ItemsAnswer}
-use Rattle.dtrek_items.specs.declared.ItemsAnswer.TheVariants as S
+use Rattle.dtrek_items.specs.declared.ItemsError.{ItemsError}
+use Rattle.dtrek_items.specs.declared.ItemsError.TheVariants as S
 
 -- refusal 33: not items and then the end, or a keyword twice
 abbrev pub is_malformed : List ℕ → Bool
 is_malformed text = not (well_written text) || repeated (items text)
 
 -- an item has the keyword of this content
-abbrev pub is_there : Content → Bool
-is_there c = not (eqb c.stop 0)
+abbrev pub is_there : Option Content → Bool
+is_there c = is_some c
 
-abbrev pub value_at : List ℕ → Content → List ℕ
-value_at text c = trimmed (between c.from c.stop text)
+-- empty where there is none
+abbrev pub value_at : List ℕ → Option Content → List ℕ
+value_at text None = []
+value_at text (Some c) = trimmed (between c.from c.stop text)
 
 -- the content under a keyword: its value, and whether an item has it
-pub record Under (text key : List ℕ) (c : Content) : Type 0 where
+pub record Under (text key : List ℕ) (c : Option Content) : Type 0 where
   pub value : value_at text c ≡ value_of key (items text)
   pub there : is_there c ≡ has key (items text)
 
@@ -40,27 +43,24 @@ pub record Sound (text : List ℕ) (f : Contents) : Type 0 where
   pub found : Found text f
 
 -- a text of up to 99,840 bytes is malformed, or its values are found
-abbrev pub Surveyed : List ℕ → ItemsAnswer → Type 0
-Surveyed text (S.Sound f) = Sound text f
-Surveyed text S.Malformed = is_malformed text ≡ true
-Surveyed text S.TooLong = 99840 < length text
+abbrev pub Surveyed : List ℕ → Result Contents ItemsError → Type 0
+Surveyed text (Ok f) = Sound text f
+Surveyed text (Err S.Malformed) = is_malformed text ≡ true
+Surveyed text (Err S.TooLong) = 99840 < length text
 
 -- for the contracts of private functions: the first content under a keyword stays
-abbrev pub no_content : Content
-no_content = record { from = 0; stop = 0 }
-
 abbrev pub no_contents : Contents
 no_contents = record {
-  dim = no_content;
-  size1 = no_content;
-  size2 = no_content;
-  order = no_content;
-  kind = no_content;
-  compression = no_content;
+  dim = None;
+  size1 = None;
+  size2 = None;
+  order = None;
+  kind = None;
+  compression = None;
 }
 
-unfoldable pub noted : List ℕ → List ℕ → Content → Content → Content
-noted key word here c = if is_there c then c else if same_bytes word key then here else c
+unfoldable pub noted : List ℕ → List ℕ → Content → Option Content → Option Content
+noted key word here c = if is_there c then c else if same_bytes word key then Some here else c
 
 abbrev pub noted_all : List ℕ → Content → Contents → Contents
 noted_all word here f = record {

@@ -2,121 +2,64 @@
 #![tactic(auto)]
 
 ghost use Rattle.std.specs.Prelude.{◌≡◌, ◌+◌, ◌*◌, ◌≤◌, ◌<◌, length};
-ghost use Rattle.dtrek_items.specs.Keys.{compared, Rising, Sought, Inserted};
+ghost use Rattle.dtrek_items.specs.Keys.{Rising, Sought, Inserted};
 ghost use Rattle.dtrek_items.specs.Survey.{is_there, value_at, Surveyed, no_contents, noted, noted_all};
 
 use dtrek_text::{Cursor, Scanned};
 
-// Where the content of an item stands: from behind its equals sign to its semicolon. Both are 0 where there is no such item.
+// Where the content of an item stands: from behind its equals sign to its semicolon.
 #[derive(Clone, Copy)]
 pub struct Content {
     pub from: usize,
     pub stop: usize,
 }
 
-// The contents under the keywords that are read.
-#[derive(Clone, Copy)]
+// The contents under the keywords that are read; none where no item has the keyword.
+#[derive(Clone, Copy, Default)]
 pub struct Contents {
-    pub dim: Content,
-    pub size1: Content,
-    pub size2: Content,
-    pub order: Content,
-    pub kind: Content,
-    pub compression: Content,
+    pub dim: Option<Content>,
+    pub size1: Option<Content>,
+    pub size2: Option<Content>,
+    pub order: Option<Content>,
+    pub kind: Option<Content>,
+    pub compression: Option<Content>,
 }
 
 // Malformed is refusal 33. TooLong is for a text that is longer than any header.
 #[derive(Clone, Copy)]
-pub enum ItemsAnswer {
-    Sound(Contents),
+pub enum ItemsError {
     Malformed,
     TooLong,
 }
 
-pub fn is_there(c: Content) -> bool
+pub fn is_there(c: Option<Content>) -> bool
     ensures { result ≡ is_there c }
 {
-    c.stop != 0
+    c.is_some()
 }
 
-// The value of an item, from the text that its content was found in.
-pub fn value(text: &[u8], c: Content) -> &[u8]
+// The value of an item, from the text that its content was found in; empty where there is none.
+pub fn value(text: &[u8], c: Option<Content>) -> &[u8]
     ensures { result.now ≡ value_at text.now c }
 {
-    let from = c.from;
-    let stop = c.stop;
-    if stop <= from {
+    let Some(Content { from, stop }) = c else {
         return &text[..0];
-    }
-    if text.len() <= from {
-        return &text[..0];
-    }
-    if text.len() < stop {
-        return dtrek_text::trim(&text[from..]);
-    }
-    dtrek_text::trim(&text[from..stop])
-}
-
-// Which of two byte strings comes first.
-#[derive(Clone, Copy)]
-pub enum Order {
-    Before,
-    Same,
-    After,
-}
-
-fn compare(a: &[u8], b: &[u8]) -> Order
-    ensures { result ≡ compared a.now b.now }
-{
-    let mut i = 0;
-    while i < a.len() {
-        if b.len() <= i {
-            return Order::After;
-        }
-        if a[i] < b[i] {
-            return Order::Before;
-        }
-        if b[i] < a[i] {
-            return Order::After;
-        }
-        i += 1;
-    }
-    if a.len() < b.len() {
-        Order::Before
-    } else {
-        Order::Same
+    };
+    let end = stop.min(text.len());
+    match text.get(from..end) {
+        Some(content) => dtrek_text::trim(content),
+        None => &text[..0],
     }
 }
 
-// Whether a keyword is among those in order, or else its place among them.
-#[derive(Clone, Copy)]
-pub enum Slot {
-    Taken,
-    Free(usize),
-}
-
-// places: where keywords start, in the order of the keywords.
-fn find(text: &[u8], places: &[u32], key: &[u8]) -> Slot
+// places: where keywords start, in the order of the keywords. The free place for one more, unless it stands there.
+fn find(text: &[u8], places: &[u32], key: &[u8]) -> Option<usize>
     requires { Rising text.now places.now }
     ensures { Sought text.now places.now key.now result }
 {
-    let mut low = 0;
-    let mut high = places.len();
-    while low < high {
-        let middle = low + (high - low) / 2;
-        match compare(dtrek_text::keyword_at(text, places[middle] as usize), key) {
-            Order::Before => {
-                low = middle + 1;
-            }
-            Order::Same => {
-                return Slot::Taken;
-            }
-            Order::After => {
-                high = middle;
-            }
-        }
-    }
-    Slot::Free(low)
+    places
+        .binary_search_by(|place| dtrek_text::keyword_at(text, *place as usize).cmp(key))
+        .err()
 }
 
 // The first k places with one more put in at i.
@@ -124,60 +67,44 @@ fn insert(places: &mut [u32], k: usize, i: usize, start: u32)
     requires { (i ≤ k) × (k < length places.old) }
     ensures { Inserted places.old k i start places.new }
 {
-    let mut j = k;
-    while i < j {
-        let before = j - 1;
-        places[j] = places[before];
-        j = before;
-    }
+    places.copy_within(i..k, i + 1);
     places[i] = start;
 }
 
 // The content under a keyword, if this item is the first that has it.
-fn note<'a>(c: Content, word: &'a [u8], key: &'a [u8], here: Content) -> Content
+#[tactic(auto, unfolding(crate::specs::Survey::noted))]
+fn note(c: Option<Content>, word: &[u8], key: &[u8], here: Content) -> Option<Content>
     ensures { result ≡ noted key.now word.now here c }
 {
-    if is_there(c) {
-        return c;
+    match c {
+        Some(_) => c,
+        None => dtrek_text::same(word, key).then_some(here),
     }
-    if dtrek_text::same(word, key) { here } else { c }
 }
 
+// By name, since an array by number would name no keyword.
 fn note_all(f: Contents, word: &[u8], here: Content) -> Contents
     ensures { result ≡ noted_all word.now here f }
 {
-    let dim = f.dim;
-    let size1 = f.size1;
-    let size2 = f.size2;
-    let order = f.order;
-    let kind = f.kind;
-    let compression = f.compression;
     Contents {
-        dim: note(dim, word, b"DIM", here),
-        size1: note(size1, word, b"SIZE1", here),
-        size2: note(size2, word, b"SIZE2", here),
-        order: note(order, word, b"BYTE_ORDER", here),
-        kind: note(kind, word, b"Data_type", here),
-        compression: note(compression, word, b"COMPRESSION", here),
+        dim: note(f.dim, word, b"DIM", here),
+        size1: note(f.size1, word, b"SIZE1", here),
+        size2: note(f.size2, word, b"SIZE2", here),
+        order: note(f.order, word, b"BYTE_ORDER", here),
+        kind: note(f.kind, word, b"Data_type", here),
+        compression: note(f.compression, word, b"COMPRESSION", here),
     }
 }
 
 fn no_contents() -> Contents
     ensures { result ≡ no_contents }
 {
-    let none = Content { from: 0, stop: 0 };
-    Contents {
-        dim: none,
-        size1: none,
-        size2: none,
-        order: none,
-        kind: none,
-        compression: none,
-    }
+    Contents::default()
 }
 
 // The places of the keywords are kept in the order of the keywords, so that any header takes little time. An item takes four bytes at least.
-fn survey_with(text: &[u8], places: &mut [u32]) -> ItemsAnswer
+// Without a heap: the caller lends the places, and k counts those that are taken.
+fn survey_with(text: &[u8], places: &mut [u32]) -> Result<Contents, ItemsError>
     requires { (length text.now ≤ 99840) × (length text.now ≤ 4 * length places.old) }
     ensures { Surveyed text.now result }
 {
@@ -193,8 +120,8 @@ fn survey_with(text: &[u8], places: &mut [u32]) -> ItemsAnswer
                 stop,
                 next,
             } => {
-                let Slot::Free(i) = find(text, &places[..k], &text[start..end]) else {
-                    return ItemsAnswer::Malformed;
+                let Some(i) = find(text, &places[..k], &text[start..end]) else {
+                    return Err(ItemsError::Malformed);
                 };
                 insert(places, k, i, start as u32);
                 k += 1;
@@ -203,43 +130,36 @@ fn survey_with(text: &[u8], places: &mut [u32]) -> ItemsAnswer
                 c = next;
             }
             Scanned::Bad => {
-                return ItemsAnswer::Malformed;
+                return Err(ItemsError::Malformed);
             }
             Scanned::Last => {
                 if dtrek_text::is_end(&text[at..]) {
-                    return ItemsAnswer::Sound(f);
+                    return Ok(f);
                 }
-                return ItemsAnswer::Malformed;
+                return Err(ItemsError::Malformed);
             }
         }
     }
 }
 
-fn survey_short(text: &[u8]) -> ItemsAnswer
-    requires { length text.now ≤ 8192 }
+// With N places, for a text of up to 4 * N bytes.
+fn survey_in<const N: usize>(text: &[u8]) -> Result<Contents, ItemsError>
+    requires { (N ≤ 24960) × (length text.now ≤ 4 * N) }
     ensures { Surveyed text.now result }
 {
-    let mut places = [0u32; 2048];
-    survey_with(text, &mut places)
-}
-
-fn survey_long(text: &[u8]) -> ItemsAnswer
-    requires { length text.now ≤ 99840 }
-    ensures { Surveyed text.now result }
-{
-    let mut places = [0u32; 24960];
+    let mut places = [0u32; N];
     survey_with(text, &mut places)
 }
 
 // The items of a text in one pass: refusal 33, or where the values stand that are read. A usual header clears little memory.
-pub fn survey(text: &[u8]) -> ItemsAnswer
+pub fn survey(text: &[u8]) -> Result<Contents, ItemsError>
     ensures { Surveyed text.now result }
 {
     if text.len() <= 8192 {
-        return survey_short(text);
+        survey_in::<2048>(text)
+    } else if text.len() <= 99840 {
+        survey_in::<24960>(text)
+    } else {
+        Err(ItemsError::TooLong)
     }
-    if text.len() <= 99840 {
-        return survey_long(text);
-    }
-    ItemsAnswer::TooLong
 }

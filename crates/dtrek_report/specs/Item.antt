@@ -1,5 +1,5 @@
 -- Request A9: where an item of a d*TREK header stands in the file, read on from a place.
-use Rattle.std.specs.Prelude.{ℕ, suc, ◌+◌, List, length, take, ltb, if◌then◌else◌}
+use Rattle.std.specs.Prelude.{ℕ, suc, ◌+◌, List, length, take, ltb, if◌then◌else◌, None, Option, Some}
 use Rattle.refusal.specs.declared.Refusal.{Refusal}
 use Rattle.refusal.specs.declared.Refusal.TheVariants as R
 use Rattle.refusal.specs.Codes.{refusal_number}
@@ -8,8 +8,6 @@ use Rattle.dtrek_text.specs.declared.Scanned.{Scanned}
 use Rattle.dtrek_text.specs.declared.Scanned.TheVariants as I
 use Rattle.dtrek_text.specs.Bytes.{is_white, between, trimmed}
 use Rattle.dtrek_text.specs.Scan.{item_from}
-use Rattle.dtrek_header.specs.declared.Length.{Length}
-use Rattle.dtrek_header.specs.declared.Length.TheVariants as L
 use Rattle.dtrek_header.specs.Length.{header_length}
 use Rattle.dtrek_report.specs.declared.DtrekItemReport.{DtrekItemReport}
 
@@ -49,9 +47,9 @@ item_scanned header (I.Found start end stop next) = record {
 item_scanned header I.Bad = item_refused R.BadSyntax
 item_scanned header I.Last = no_item
 
-abbrev pub item_by : List ℕ → ℕ → Length → DtrekItemReport
-item_by bytes at L.Unlisted = item_refused R.BadHeaderStart
-item_by bytes at (L.Bytes n) =
+abbrev pub item_by : List ℕ → ℕ → Option ℕ → DtrekItemReport
+item_by bytes at None = item_refused R.BadHeaderStart
+item_by bytes at (Some n) =
     if ltb (length bytes) n then item_refused R.HeaderTruncated else
     item_scanned (take n bytes) (item_from (take n bytes) at)
 

@@ -1,5 +1,6 @@
 -- Request A9: what a d*TREK file's header and image say, as plain numbers: the C interface's answers.
-use Rattle.std.specs.Prelude.{ℕ}
+use Rattle.layout.specs.declared.Frame.{Frame}
+use Rattle.std.specs.Prelude.{ℕ, Err, Ok, Result}
 use Rattle.refusal.specs.declared.Refusal.{Refusal}
 use Rattle.refusal.specs.Codes.{refusal_number}
 use Rattle.layout.specs.Form.{width_bytes}
@@ -7,18 +8,8 @@ use Rattle.layout.specs.Layout.{image_end}
 use Rattle.byte_order.specs.declared.ByteOrder.{ByteOrder}
 use Rattle.byte_order.specs.declared.ByteOrder.TheVariants as O
 use Rattle.answers.specs.declared.ReadResult.{ReadResult}
-use Rattle.answers.specs.Read.{read_accepted, read_refused}
 use Rattle.dtrek_header.specs.declared.DtrekHeader.{DtrekHeader}
-use Rattle.dtrek_header.specs.declared.DtrekHeaderAnswer.{DtrekHeaderAnswer}
-use Rattle.dtrek_header.specs.declared.DtrekHeaderAnswer.TheVariants as H
-use Rattle.dtrek_image.specs.declared.DtrekAnswer.{DtrekAnswer}
-use Rattle.dtrek_image.specs.declared.DtrekAnswer.TheVariants as A
 use Rattle.dtrek_report.specs.declared.DtrekHeaderReport.{DtrekHeaderReport}
-
--- rows, columns and the place where the pixels end
-abbrev pub dtrek_read_result : DtrekAnswer → ReadResult
-dtrek_read_result (A.Read rows columns end) = read_accepted rows columns end
-dtrek_read_result (A.Refused r) = read_refused r
 
 abbrev pub big_endian : ByteOrder → ℕ
 big_endian O.Little = 0
@@ -40,6 +31,6 @@ abbrev pub report_refused : Refusal → DtrekHeaderReport
 report_refused r =
     record { refusal = refusal_number r; start = 0; rows = 0; columns = 0; width = 0; big_endian = 0; end = 0 }
 
-abbrev pub dtrek_report : DtrekHeaderAnswer → DtrekHeaderReport
-dtrek_report (H.Accepted h) = report_accepted h
-dtrek_report (H.Refused r) = report_refused r
+abbrev pub dtrek_report : Result DtrekHeader Refusal → DtrekHeaderReport
+dtrek_report (Ok h) = report_accepted h
+dtrek_report (Err r) = report_refused r

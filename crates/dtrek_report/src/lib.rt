@@ -4,20 +4,20 @@
 ghost use Rattle.std.specs.Prelude.{◌≡◌, length};
 ghost use Rattle.dtrek_text.specs.Scan.{item_from};
 ghost use Rattle.dtrek_header.specs.DtrekHeader.{Bounded, dtrek_header};
+ghost use Rattle.answers.specs.Read.{read_result};
 ghost use Rattle.dtrek_image.specs.DtrekImage.{dtrek_answer, dtrek_pixels};
-ghost use Rattle.dtrek_report.specs.Report.{dtrek_read_result, big_endian, report_accepted, report_refused, dtrek_report};
+ghost use Rattle.dtrek_report.specs.Report.{big_endian, report_accepted, report_refused, dtrek_report};
 ghost use Rattle.dtrek_report.specs.Item.{value_start, value_end, item_refused, no_item, item_scanned, dtrek_item};
 
 use answers::ReadResult;
 use byte_order::ByteOrder;
-use dtrek_header::{DtrekHeader, DtrekHeaderAnswer, Length};
-use dtrek_image::DtrekAnswer;
+use dtrek_header::DtrekHeader;
 use dtrek_text::{Cursor, Scanned};
 use refusal::Refusal;
 
 // refusal is 0 where the header is accepted; else every other field is 0.
 #[repr(C)]
-#[derive(Clone, Copy)]
+#[derive(Clone, Copy, Default)]
 pub struct DtrekHeaderReport {
     pub refusal: u32,
     pub start: u32,
@@ -30,7 +30,7 @@ pub struct DtrekHeaderReport {
 
 // found is 1 where an item was read; a field that does not apply is 0.
 #[repr(C)]
-#[derive(Clone, Copy)]
+#[derive(Clone, Copy, Default)]
 pub struct DtrekItemReport {
     pub refusal: u32,
     pub found: u32,
@@ -41,21 +41,12 @@ pub struct DtrekItemReport {
     pub next: u64,
 }
 
-fn read_result(answer: DtrekAnswer) -> ReadResult
-    ensures { result ≡ dtrek_read_result answer }
-{
-    match answer {
-        DtrekAnswer::Read { rows, columns, end } => answers::read_accepted(rows, columns, end),
-        DtrekAnswer::Refused(r) => answers::read_refused(r),
-    }
-}
-
 // The image of a d*TREK file, into the start of the pixel array.
 pub fn read(file: &[u8], pixels: &mut [u32]) -> ReadResult
-    ensures value { result ≡ dtrek_read_result (dtrek_answer file.now (length pixels.old)) }
+    ensures value { result ≡ read_result (dtrek_answer file.now (length pixels.old)) }
     ensures pixels_after { pixels.new ≡ dtrek_pixels file.now pixels.old }
 {
-    read_result(dtrek_image::read(file, pixels))
+    answers::read_result(dtrek_image::read(file, pixels))
 }
 
 fn big_endian(order: ByteOrder) -> u32
@@ -71,16 +62,15 @@ fn report_accepted(h: DtrekHeader) -> DtrekHeaderReport
     requires { Bounded h }
     ensures { result ≡ report_accepted h }
 {
-    let image = h.image;
-    let order = h.order;
-    let width = image.width;
-    let bytes = layout::pixel_count(image) * layout::width_bytes(width);
+    let DtrekHeader { image, order } = h;
+    let each = layout::width_bytes(image.width);
+    let bytes = layout::pixel_count(image) * each;
     DtrekHeaderReport {
         refusal: 0,
         start: image.start,
         rows: image.rows,
         columns: image.columns,
-        width: layout::width_bytes(width) as u32,
+        width: each as u32,
         big_endian: big_endian(order),
         end: image.start as u64 + bytes as u64,
     }
@@ -91,12 +81,7 @@ fn report_refused(r: Refusal) -> DtrekHeaderReport
 {
     DtrekHeaderReport {
         refusal: refusal::number_of(r),
-        start: 0,
-        rows: 0,
-        columns: 0,
-        width: 0,
-        big_endian: 0,
-        end: 0,
+        ..DtrekHeaderReport::default()
     }
 }
 
@@ -105,8 +90,8 @@ pub fn report(file: &[u8]) -> DtrekHeaderReport
     ensures { result ≡ dtrek_report (dtrek_header file.now) }
 {
     match dtrek_header::read_header(file) {
-        DtrekHeaderAnswer::Accepted(h) => report_accepted(h),
-        DtrekHeaderAnswer::Refused(r) => report_refused(r),
+        Ok(h) => report_accepted(h),
+        Err(r) => report_refused(r),
     }
 }
 
@@ -115,12 +100,7 @@ fn item_refused(r: Refusal) -> DtrekItemReport
 {
     DtrekItemReport {
         refusal: refusal::number_of(r),
-        found: 0,
-        key_start: 0,
-        key_end: 0,
-        value_start: 0,
-        value_end: 0,
-        next: 0,
+        ..DtrekItemReport::default()
     }
 }
 
@@ -149,15 +129,7 @@ fn item_from(header: &[u8], at: usize) -> DtrekItemReport
             }
         }
         Scanned::Bad => item_refused(Refusal::BadSyntax),
-        Scanned::Last => DtrekItemReport {
-            refusal: 0,
-            found: 0,
-            key_start: 0,
-            key_end: 0,
-            value_start: 0,
-            value_end: 0,
-            next: 0,
-        },
+        Scanned::Last => DtrekItemReport::default(),
     }
 }
 
@@ -165,7 +137,7 @@ fn item_from(header: &[u8], at: usize) -> DtrekItemReport
 pub fn item(file: &[u8], at: u64) -> DtrekItemReport
     ensures { result ≡ dtrek_item file.now at }
 {
-    let Length::Bytes(n) = dtrek_header::header_length(file) else {
+    let Some(n) = dtrek_header::header_length(file) else {
         return item_refused(Refusal::BadHeaderStart);
     };
     let length = n as usize;

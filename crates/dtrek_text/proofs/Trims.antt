@@ -3,15 +3,15 @@
 use mathlib.Core.Path.{◌≡◌, refl, sym, ap, ◌∙◌}
 use mathlib.Core.Bool.{Bool, true, false, ◌&&◌}
 use mathlib.Core.List.{List, [], ◌∷◌, ◌++◌}
-use Prim.Native.Nat.{ℕ, suc, ◌+◌, ◌-◌, ◌≤◌, ◌<◌}
+use Prim.Native.Nat.{ℕ, suc, ◌+◌, ◌-◌, ◌≤◌}
 use native.Mathlib.Omega.{arith}
 use lib.ListN.{length, get_or, take, drop, length-take, length-drop}
-use lib.Seq.{take-suc, get_or-drop, take_all}
+use lib.Seq.{take-suc, take_all}
 use Rattle.std.specs.Prelude.{if◌then◌else◌}
 use Rattle.lists.proofs.Tests.{and-false}
 use Rattle.numeral.specs.Runs.{leading}
 use Rattle.numeral.proofs.Runs.{leading_le}
-use Rattle.dtrek_text.specs.Bytes.{is_white, is_empty, between, trim_end, trimmed}
+use Rattle.dtrek_text.specs.Bytes.{is_white, is_empty, trim_end, trimmed}
 
 pub end-white : (v : List ℕ) (b : ℕ) → is_white b ≡ true → trim_end (v ++ (b ∷ [])) ≡ trim_end v
 unfolding trim_end
@@ -27,46 +27,29 @@ unfolding trim_end
 end-other [] b t = rw t
 end-other (a ∷ v) b t = rw (end-other v b t, not-empty v b, and-false (is_white a))
 
--- v from start to end, where the bytes from end on are white space
-pub record Trimming (v : List ℕ) (start end : ℕ) : Type 0 where
-  pub low : start ≤ end
-  pub high : end ≤ length v
-  pub left : trim_end (between start end v) ≡ trim_end (drop start v)
+module _ (v : List ℕ) (h : 1 ≤ length v) where
+  abbrev front : List ℕ
+  front = take (length v - 1) v
 
-pub trimming-start : (v : List ℕ) (start : ℕ) → start ≤ length v → Trimming v start (length v)
-trimming-start v start h = record {
-  low = h;
-  high = omega arith;
-  left = rw (take_all (length v - start) (drop start v) (omega (arith, length-drop start v)));
-}
+  abbrev end : ℕ
+  end = get_or v (length v - 1) 0
 
-last : (v : List ℕ) (start end : ℕ) → start < end → end ≤ length v → between start end v ≡ between start (end - 1) v ++ (get_or v (end - 1) 0 ∷ [])
-last v start end h k =
-    let n : end - start ≡ suc (end - 1 - start) = omega arith in
-    let m : start + (end - 1 - start) ≡ end - 1 = omega arith in
-    let l : end - 1 - start < length (drop start v) = omega (arith, length-drop start v) in
-    rw (n, take-suc (drop start v) (end - 1 - start) 0 l, get_or-drop, m)
+  split : front ++ (end ∷ []) ≡ v
+  split =
+      let n : suc (length v - 1) ≡ length v = omega arith in
+      sym (take-suc v (length v - 1) 0 (omega arith)) ∙ rw (n, take_all (length v) v (omega arith))
 
-pub trimming-more : {v : List ℕ} {start end : ℕ} → Trimming v start end → start < end → is_white (get_or v (end - 1) 0) ≡ true → Trimming v start (end - 1)
-trimming-more {v} {start} {end} f h t = record {
-  low = omega arith;
-  high = omega (arith, f.high);
-  left = sym (end-white (between start (end - 1) v) (get_or v (end - 1) 0) t) ∙ ap trim_end (sym (last v start end h f.high)) ∙ f.left;
-}
+  -- one byte of white space less at the end, and no more to drop
+  pub last-white : is_white end ≡ true → trim_end front ≡ trim_end v
+  last-white t = sym (end-white front end t) ∙ ap trim_end split
 
-pub trimming-other : {v : List ℕ} {start end : ℕ} → Trimming v start end → start < end → is_white (get_or v (end - 1) 0) ≡ false → between start end v ≡ trim_end (drop start v)
-trimming-other {v} {start} {end} f h t =
-    last v start end h f.high
-    ∙ sym (end-other (between start (end - 1) v) (get_or v (end - 1) 0) t)
-    ∙ ap trim_end (sym (last v start end h f.high))
-    ∙ f.left
+  pub last-other : is_white end ≡ false → v ≡ trim_end v
+  last-other t = sym split ∙ sym (end-other front end t) ∙ ap trim_end split
 
-pub trimming-none : {v : List ℕ} {start end : ℕ} → Trimming v start end → end ≤ start → between start end v ≡ trim_end (drop start v)
+pub none-left : (v : List ℕ) → length v ≤ 0 → v ≡ trim_end v
 unfolding trim_end
-trimming-none {v} {start} {end} f h =
-    let e : end - start ≡ 0 = omega arith in
-    let l : trim_end (between start end v) ≡ [] = rw e in
-    rw e (sym l ∙ f.left)
+none-left [] h = refl
+none-left (b ∷ v) h = absurd (omega arith)
 
 -- what is left is a front of the list
 pub trim-end-take : (v : List ℕ) → take (length (trim_end v)) v ≡ trim_end v

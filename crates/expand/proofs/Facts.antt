@@ -3,7 +3,7 @@
 use Rattle.std.proofs.Common.{◌≡◌, ℕ, ◌+◌, ◌-◌, ◌*◌, ◌≤◌, Bool, true, false, not, ◌&&◌, eqb, ltb, ◌↔◌, List, ◌++◌, length, take, drop, sym, refl, ap, ◌∙◌, arith, length-append, length-drop, length-take, take-take, drop_at, ltb-false, le-ltb, eqb-true}
 use lib.ListN.{length-replicate}
 use borrow.Author.Tests.{not-false}
-use Rattle.std.specs.Prelude.{if◌then◌else◌}
+use Rattle.std.specs.Prelude.{if◌then◌else◌, Err, Ok, Result, ℕ}
 use Rattle.lists.specs.Bytes.{zeros}
 use Rattle.refusal.specs.declared.Refusal.{Refusal}
 use Rattle.refusal.specs.declared.Refusal.TheVariants as R
@@ -16,8 +16,6 @@ use Rattle.lists.proofs.Parts.{drop-take}
 use Rattle.table.proofs.Laws.{length-entries, entries-take}
 use Rattle.expand.specs.Steps.{taken_a, taken_b, taken_c, exhausted, applies_a, applies_b, after_a, after_b}
 use Rattle.expand.specs.Expand.{stored_of, table_padding_zero, padding_zero, applies_c, tables_exhausted, baseline_too_large, frame_pixels, binary_answer, binary_pixels, baseline_of, first_pixels}
-use Rattle.expand.specs.declared.Expanded.{Expanded}
-use Rattle.expand.specs.declared.Expanded.TheVariants.{Frame, Refused}
 use Rattle.expand.proofs.Steps.{no, length-fill_if}
 use Rattle.expand.proofs.Extents.{table-ge}
 
@@ -30,23 +28,23 @@ pub record Accepted (bytes : List ℕ) (i : Image) (t : BinaryTables) (places en
   pub fits : baseline_too_large bytes i t ≡ false
   pub end_is : binary_end i t ≡ end
 
-not-refused : {r : Refusal} {end : ℕ} → Refused r ≡ Frame end → ⊥
+not-refused : {r : Refusal} {end : ℕ} → Err r ≡ Ok end → ⊥
 not-refused e = let z : ◌≡◌ {A = ℕ} 0 1 = cc in omega arith
 
 -- a test that does not refuse is false
-passed : (test : Bool) (r : Refusal) (rest : Expanded) (end : ℕ) → if◌then◌else◌ test (Refused r) rest ≡ Frame end → (test ≡ false) × (rest ≡ Frame end)
+passed : (test : Bool) (r : Refusal) (rest : Result ℕ Refusal) (end : ℕ) → if◌then◌else◌ test (Err r) rest ≡ Ok end → (test ≡ false) × (rest ≡ Ok end)
 passed true r rest end e = absurd (not-refused e)
 passed false r rest end e = (refl, e)
 
-same_end : {a b : ℕ} → Frame a ≡ Frame b → a ≡ b
+same_end : {a b : ℕ} → ◌≡◌ {A = Result ℕ Refusal} (Ok a) (Ok b) → a ≡ b
 same_end e = cc
 
 -- a frame is accepted exactly when none of 10, 11, 12, 14 and 15 is due
-pub accepted-iff : (bytes : List ℕ) (i : Image) (t : BinaryTables) (places end : ℕ) → (binary_answer bytes i t places ≡ Frame end) ↔ Accepted bytes i t places end
+pub accepted-iff : (bytes : List ℕ) (i : Image) (t : BinaryTables) (places end : ℕ) → (binary_answer bytes i t places ≡ Ok end) ↔ Accepted bytes i t places end
 unfolding binary_answer
 accepted-iff bytes i t places end = (forward, backward)
   where
-    forward : binary_answer bytes i t places ≡ Frame end → Accepted bytes i t places end
+    forward : binary_answer bytes i t places ≡ Ok end → Accepted bytes i t places end
     forward e =
         let a = passed (ltb places (pixel_count i)) R.PixelArrayShort _ end e in
         let b = passed (ltb (length bytes) (binary_end i t)) R.DataTruncated _ end a.1 in
@@ -62,7 +60,7 @@ accepted-iff bytes i t places end = (forward, backward)
           end_is = same_end f.1;
         }
 
-    backward : Accepted bytes i t places end → binary_answer bytes i t places ≡ Frame end
+    backward : Accepted bytes i t places end → binary_answer bytes i t places ≡ Ok end
     backward a =
         rw (le-ltb places (pixel_count i) a.room, le-ltb (length bytes) (binary_end i t) a.whole, a.padding, a.used, a.fits, a.end_is)
 
@@ -76,7 +74,7 @@ pub record StatedTaken (bytes : List ℕ) (i : Image) (t : BinaryTables) : Type 
   pub four : taken_b (width_bytes i.width) (stored_of bytes i t) ≡ t.four
   pub under : taken_c (width_bytes i.width) (applies_c t.underflows) (stored_of bytes i t) ≡ underflow_count t.underflows
 
-pub accepted-exhausted : (bytes : List ℕ) (i : Image) (t : BinaryTables) (places end : ℕ) → binary_answer bytes i t places ≡ Frame end → StatedTaken bytes i t
+pub accepted-exhausted : (bytes : List ℕ) (i : Image) (t : BinaryTables) (places end : ℕ) → binary_answer bytes i t places ≡ Ok end → StatedTaken bytes i t
 unfolding exhausted stored_of
 accepted-exhausted bytes i t places end e =
     let a = (accepted-iff bytes i t places end).0 e in
@@ -140,8 +138,8 @@ accepted-pixels bytes i t end pixels a =
     rw (le-ltb (length pixels) (pixel_count i) a.room, le-ltb (length bytes) (binary_end i t) a.whole, a.padding, a.used, a.fits)
 
 -- an accepted frame's answer and pixels do not depend on bytes past its end
-pub accepted-local : (bytes bytes' : List ℕ) (i : Image) (t : BinaryTables) (pixels : List ℕ) (end : ℕ) → binary_answer bytes i t (length pixels) ≡ Frame end → take end bytes' ≡ take end bytes
-    → (binary_answer bytes' i t (length pixels) ≡ Frame end) × (binary_pixels bytes' i t pixels ≡ binary_pixels bytes i t pixels)
+pub accepted-local : (bytes bytes' : List ℕ) (i : Image) (t : BinaryTables) (pixels : List ℕ) (end : ℕ) → binary_answer bytes i t (length pixels) ≡ Ok end → take end bytes' ≡ take end bytes
+    → (binary_answer bytes' i t (length pixels) ≡ Ok end) × (binary_pixels bytes' i t pixels ≡ binary_pixels bytes i t pixels)
 accepted-local bytes bytes' i t pixels end e same =
     let a = (accepted-iff bytes i t (length pixels) end).0 e in
     let s : Agree (binary_end i t) bytes' bytes = rw a.end_is same in

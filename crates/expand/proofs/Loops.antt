@@ -1,13 +1,14 @@
 -- The loops' invariants, over plain lists.
 -- Assumes nothing.
-use Rattle.std.proofs.Common.{◌≡◌, ℕ, suc, ◌+◌, ◌<◌, ◌≤◌, Bool, true, false, ◌||◌, eqb, ltb, List, ◌∷◌, ◌++◌, map, length, get_or, take, drop, set, sym, refl, ◌∙◌, append-nil, add-zero, add-one, arith, length-set, drop_of_length-le, get_or-drop, take_all, drop-cons, take-suc, drop-drop, take-suc-set, drop-set-lt, lt-ltb, eq-eqb, ne_eqb, eqb-true}
+use Rattle.std.proofs.Common.{◌≡◌, ℕ, suc, ◌+◌, ◌<◌, ◌≤◌, Bool, true, false, ◌||◌, eqb, ltb, List, [], ◌∷◌, ◌++◌, map, length, get_or, take, drop, set, sym, refl, ◌∙◌, append-nil, add-zero, add-one, arith, length-set, drop_of_length-le, get_or-drop, take_all, drop-cons, take-suc, drop-drop, take-suc-set, drop-set-lt, lt-ltb, eq-eqb, ne_eqb, eqb-true}
 use mathlib.Core.Bool.{or-false}
 use mathlib.Core.List.{map-append}
-use lib.Seq.{append_snoc, set-get_or}
+use lib.Seq.{append_snoc}
 use borrow.Author.Tests.{eqb-false}
+use mir.Val.{bool_byte}
+use Rattle.std.specs.List.{list_any}
 use Rattle.std.specs.Prelude.{if◌then◌else◌}
 use Rattle.expand.specs.Steps.{fill_by, count, sum_too_large, any_too_large}
-use Rattle.expand.proofs.Steps.{count-more}
 
 module _ (m : ℕ) (g : ℕ → ℕ) (xs es : List ℕ) (i k : ℕ) (h : i < length xs) where
   fill-hit : get_or xs i 0 ≡ m → fill_by m g (drop i xs) (drop k es) ≡ get_or es k 0 ∷ fill_by m g (drop (suc i) xs) (drop (k + 1) es)
@@ -73,11 +74,6 @@ module _ {m : ℕ} {g : ℕ → ℕ} {es : List ℕ} {k₀ : ℕ} {xs₀ xs : Li
   unfolding fill_by
   filling-done h = sym (append-nil xs) ∙ (rw (drop_of_length-le xs h, take_all i xs h) at f.rest)
 
--- a step that leaves what is no mark writes nothing there
-pub filling-stay : {m : ℕ} {es : List ℕ} {k₀ : ℕ} {xs₀ xs : List ℕ} {k i : ℕ} → Filling m (λ (x : ℕ). x) es k₀ xs₀ xs k i → i < length xs
-    → (get_or xs i 0 ≡ m → ⊥) → Filling m (λ (x : ℕ). x) es k₀ xs₀ xs k (i + 1)
-filling-stay {m} {es} {k₀} {xs₀} {xs} {k} {i} f h e = let s : set xs i (get_or xs i 0) ≡ xs = set-get_or xs i 0 in rw s at (filling-miss f h e)
-
 -- a turn with no branch: the value and the cursor's step are chosen
 pub filling-any : {m : ℕ} {g : ℕ → ℕ} {es : List ℕ} {k₀ : ℕ} {xs₀ xs : List ℕ} {k i v e z : ℕ} → Filling m g es k₀ xs₀ xs k i → i < length xs
     → e ≡ get_or es k 0 → v ≡ if◌then◌else◌ (eqb (get_or xs i 0) m) e (g (get_or xs i 0)) → z ≡ if◌then◌else◌ (eqb (get_or xs i 0) m) 1 0
@@ -92,29 +88,20 @@ pub one-le : {z : ℕ} (t : Bool) → z ≡ if◌then◌else◌ t 1 0 → z ≤ 
 one-le true e = omega arith
 one-le false e = omega arith
 
--- A search: whether a mark stood before i.
-pub record Seeking (m : ℕ) (xs : List ℕ) (found : Bool) (i : ℕ) : Type 0 where
-  pub upto : i ≤ length xs
-  pub is : found ≡ ltb 0 (count m (take i xs))
+-- a test as a number
+pub byte-one : (t : Bool) → bool_byte t ≡ if◌then◌else◌ t 1 0
+byte-one true = refl
+byte-one false = refl
 
-pub seeking-start : (m : ℕ) (xs : List ℕ) → Seeking m xs false 0
+-- some element is m where more than none are
+pub any-counted : (m : ℕ) (xs : List ℕ) → list_any (λ y. eqb y m) xs ≡ ltb 0 (count m xs)
 unfolding count
-seeking-start m xs = record { upto = omega arith; is = refl }
-
-module _ {m : ℕ} {xs : List ℕ} {found : Bool} {i : ℕ} (f : Seeking m xs found i) (h : i < length xs) where
-  pub seeking-hit : get_or xs i 0 ≡ m → Seeking m xs true (i + 1)
-  unfolding count
-  seeking-hit e = record {
-    upto = omega arith;
-    is = rw (add-one, take-suc xs i 0 h, count-more, eq-eqb _ _ e) (sym (lt-ltb 0 (count m (take i xs) + 1) (omega arith)));
-  }
-
-  pub seeking-miss : (get_or xs i 0 ≡ m → ⊥) → Seeking m xs found (i + 1)
-  unfolding count
-  seeking-miss e = record { upto = omega arith; is = rw (add-one, take-suc xs i 0 h, count-more, ne_eqb _ _ e, add-zero) f.is }
-
-pub seeking-done : {m : ℕ} {xs : List ℕ} {found : Bool} {i : ℕ} → Seeking m xs found i → length xs ≤ i → found ≡ ltb 0 (count m xs)
-seeking-done {m} {xs} {found} {i} f h = rw (take_all i xs h) at f.is
+any-counted m [] = refl
+any-counted m (x ∷ xs) = go (eqb x m) refl (any-counted m xs)
+  where
+    go : (t : Bool) → eqb x m ≡ t → list_any (λ y. eqb y m) xs ≡ ltb 0 (count m xs) → list_any (λ y. eqb y m) (x ∷ xs) ≡ ltb 0 (count m (x ∷ xs))
+    go true q ih = rw q (sym (lt-ltb 0 (suc (count m xs)) (omega arith)))
+    go false q ih = rw q ih
 
 -- A search for sums that are too large: one so far, or one in what is left.
 pub record Watching (b : ℕ) (xs : List ℕ) (over : Bool) (i : ℕ) : Type 0 where

@@ -1,18 +1,17 @@
 -- Width 1 where few pixels take an entry: a pixel by itself, and runs of pixels that take none.
 -- Assumes nothing.
-use Rattle.std.proofs.Common.{◌≡◌, ℕ, suc, ◌+◌, ◌-◌, ◌*◌, ◌%◌, ◌<◌, ◌≤◌, Bool, true, false, ◌||◌, eqb, ltb, List, [], ◌∷◌, ◌++◌, map, length, get_or, take, drop, set, sym, refl, ap, ◌∙◌, add-zero, add-one, arith, length-drop, length-take, get_or-drop, get_or-take, take-suc, drop-drop, take-add, eq-eqb, ne_eqb}
+use Rattle.std.proofs.Common.{◌≡◌, ℕ, suc, ◌+◌, ◌-◌, ◌*◌, ◌%◌, ◌<◌, ◌≤◌, Bool, true, false, ◌||◌, List, [], ◌∷◌, ◌++◌, map, length, get_or, take, drop, set, sym, refl, ap, ◌∙◌, add-zero, arith, length-drop, length-take, get_or-drop, get_or-take, take-suc, drop-drop, take-add, eq-eqb, ne_eqb}
 use mathlib.Core.Bool.{or-false}
 use lib.Seq.{set_split}
 use borrow.Rule.Slice.PartMut.{put_mid}
-use Rattle.std.specs.Prelude.{if◌then◌else◌}
 use Rattle.table.specs.Table.{entries}
 use Rattle.table.proofs.Laws.{entries-bytes, entries-part}
-use Rattle.expand.specs.Steps.{fill_by, replace, count, sum_too_large, any_too_large}
+use Rattle.expand.specs.Steps.{fill_by, count, sum_too_large, any_too_large}
 use Rattle.expand.specs.Blocks.{stored, wrapped, used_baseline, Replaced, Lifted, Stepped, Unmarked, Passed}
 use Rattle.expand.specs.declared.Cursors.{Cursors}
 use Rattle.expand.specs.declared.Under.{Under}
 use Rattle.expand.specs.declared.Taken.{Taken}
-use Rattle.expand.proofs.Steps.{fill_none, replace-none, count-below, count-append, sum_fits, no}
+use Rattle.expand.proofs.Steps.{fill_none, replace-none, count-below, count-append, sum_fits}
 use Rattle.expand.proofs.Whole.{Done, done_more, stepped-of, lifted-not}
 
 -- the entry that a table holds next

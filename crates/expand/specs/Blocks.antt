@@ -1,5 +1,6 @@
 -- What the private functions say of themselves: the steps on one block of pixels, and on all blocks so far. No public contract cites this file.
-use Rattle.std.specs.Prelude.{◌≡◌, ℕ, ◌+◌, ◌-◌, ◌%◌, ◌≤◌, Bool, true, false, not, ◌||◌, List, take, drop, if◌then◌else◌}
+use Rattle.refusal.specs.declared.Refusal.{Refusal}
+use Rattle.std.specs.Prelude.{◌≡◌, ℕ, ◌+◌, ◌-◌, ◌%◌, ◌≤◌, Bool, true, false, not, ◌||◌, List, take, drop, if◌then◌else◌, Err, Ok, Result}
 use Rattle.lists.specs.Bytes.{zeros}
 use Rattle.refusal.specs.declared.Refusal.TheVariants as R
 use Rattle.layout.specs.declared.EntryWidth.TheVariants as E
@@ -12,8 +13,6 @@ use Rattle.layout.specs.Layout.{binary_end}
 use Rattle.table.specs.Table.{entries, whole_entries, all_zero}
 use Rattle.expand.specs.Steps.{Stored, fill_by, count, any_too_large, after_b, after_c, exhausted, taken_a, taken_b, taken_c, sums_too_large}
 use Rattle.expand.specs.Expand.{stored_of, padding_zero, applies_c, baseline_of}
-use Rattle.expand.specs.declared.Expanded.{Expanded}
-use Rattle.expand.specs.declared.Expanded.TheVariants.{Frame, Refused}
 use Rattle.expand.specs.declared.Cursors.{Cursors}
 use Rattle.expand.specs.declared.Under.{Under}
 use Rattle.expand.specs.declared.Taken.{Taken}
@@ -97,11 +96,11 @@ abbrev pub gap_zero : Extent → List ℕ → Bool
 gap_zero x bytes = all_zero (take (x.end - x.padding) (drop x.padding bytes))
 
 -- the answer after the steps, and the pixels: 14, 15 or the frame's end
-abbrev pub steps_answer : ℕ → Bool → ℕ → ℕ → Stored → Expanded
+abbrev pub steps_answer : ℕ → Bool → ℕ → ℕ → Stored → Result ℕ Refusal
 steps_answer w step base end s =
-    if not (exhausted w step s) then Refused R.CountMismatch else
-    if sums_too_large w step base s then Refused R.SumTooLarge else
-    Frame end
+    if not (exhausted w step s) then Err R.CountMismatch else
+    if sums_too_large w step base s then Err R.SumTooLarge else
+    Ok end
 
 abbrev pub steps_pixels : ℕ → Bool → ℕ → ℕ → Stored → List ℕ
 steps_pixels w step base n s =
@@ -110,7 +109,7 @@ steps_pixels w step base n s =
     after_c w step base s
 
 -- the answer from 12 on
-abbrev pub frame_answer : List ℕ → Image → BinaryTables → Expanded
+abbrev pub frame_answer : List ℕ → Image → BinaryTables → Result ℕ Refusal
 frame_answer bytes i t =
-    if not (padding_zero bytes i t) then Refused R.PaddingNotZero else
+    if not (padding_zero bytes i t) then Err R.PaddingNotZero else
     steps_answer (width_bytes i.width) (applies_c t.underflows) (baseline_of t.underflows) (binary_end i t) (stored_of bytes i t)

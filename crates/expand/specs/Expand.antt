@@ -1,5 +1,6 @@
 -- Document 01, "Expanding pixels" and "Numbers given back": FORMAT 100 from bytes to pixels.
-use Rattle.std.specs.Prelude.{ℕ, ◌+◌, ◌-◌, ◌*◌, Bool, true, false, not, ◌&&◌, List, ◌++◌, length, take, drop, nat_le, nat_lt, if◌then◌else◌}
+use Rattle.refusal.specs.declared.Refusal.{Refusal}
+use Rattle.std.specs.Prelude.{ℕ, ◌+◌, ◌-◌, ◌*◌, Bool, true, false, not, ◌&&◌, List, ◌++◌, length, take, drop, nat_le, nat_lt, if◌then◌else◌, Err, Ok, Result}
 use Rattle.lists.specs.Bytes.{zeros}
 use Rattle.refusal.specs.declared.Refusal.TheVariants as R
 use Rattle.layout.specs.declared.Image.{Image}
@@ -10,8 +11,6 @@ use Rattle.layout.specs.Form.{width_bytes}
 use Rattle.layout.specs.Layout.{pixel_count, image_end, table_bytes, underflow_count, underflow_width, two_start, four_start, binary_end}
 use Rattle.table.specs.Table.{entries, all_zero}
 use Rattle.expand.specs.Steps.{Stored, after_c, exhausted, sums_too_large, fill_by, any_too_large}
-use Rattle.expand.specs.declared.Expanded.{Expanded}
-use Rattle.expand.specs.declared.Expanded.TheVariants.{Frame, Refused}
 
 -- the frame in values: underflow, two-byte and four-byte tables follow the image in that order
 unfoldable pub stored_of : List ℕ → Image → BinaryTables → Stored
@@ -68,15 +67,15 @@ frame_pixels bytes i t =
     after_c (width_bytes i.width) (applies_c t.underflows) (baseline_of t.underflows) (stored_of bytes i t)
 
 -- the answer: 10, 11, 12, 14 and 15 in that order, or where the frame ends
-unfoldable pub binary_answer : List ℕ → Image → BinaryTables → ℕ → Expanded
+unfoldable pub binary_answer : List ℕ → Image → BinaryTables → ℕ → Result ℕ Refusal
 unfolding padding_zero stored_of exhausted any_too_large
 binary_answer bytes i t places =
-    if nat_lt places (pixel_count i) then Refused R.PixelArrayShort else
-    if nat_lt (length bytes) (binary_end i t) then Refused R.DataTruncated else
-    if not (padding_zero bytes i t) then Refused R.PaddingNotZero else
-    if not (tables_exhausted bytes i t) then Refused R.CountMismatch else
-    if baseline_too_large bytes i t then Refused R.SumTooLarge else
-    Frame (binary_end i t)
+    if nat_lt places (pixel_count i) then Err R.PixelArrayShort else
+    if nat_lt (length bytes) (binary_end i t) then Err R.DataTruncated else
+    if not (padding_zero bytes i t) then Err R.PaddingNotZero else
+    if not (tables_exhausted bytes i t) then Err R.CountMismatch else
+    if baseline_too_large bytes i t then Err R.SumTooLarge else
+    Ok (binary_end i t)
 
 -- the first N places afterwards: 12, 14 and 15 set them to 0
 abbrev pub first_pixels : List ℕ → Image → BinaryTables → List ℕ

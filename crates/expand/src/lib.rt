@@ -1,7 +1,7 @@
 // FORMAT 100: from the bytes of an image and its tables to pixels, in one pass over blocks of pixels.
 #![tactic(auto)]
 
-ghost use Rattle.std.specs.Prelude.{◌≡◌, ◌+◌, ◌*◌, ◌^◌, ◌<◌, ◌≤◌, true, false, ◌&&◌, ◌||◌, [], ◌∷◌, map, length, drop, ◌==◌, nat_lt, slice_index, if◌then◌else◌};
+ghost use Rattle.std.specs.Prelude.{◌≡◌, ◌+◌, ◌*◌, ◌^◌, ◌<◌, ◌≤◌, true, false, ◌&&◌, ◌||◌, [], ◌∷◌, map, length, drop, ◌==◌, nat_lt, slice_index, if◌then◌else◌, None, Some};
 ghost use Rattle.layout.specs.Form.{width_bytes, entry_bytes};
 ghost use Rattle.layout.specs.Layout.{pixel_count, binary_end};
 ghost use Rattle.layout.specs.declared.Width.TheVariants.{One, Four};
@@ -9,18 +9,10 @@ ghost use Rattle.table.specs.Table.{whole_entries, entries};
 ghost use Rattle.expand.specs.Steps.{fill_by, replace, count, sum_too_large, any_too_large};
 ghost use Rattle.expand.specs.Expand.{binary_answer, binary_pixels, first_pixels, parts_whole};
 ghost use Rattle.expand.specs.Places.{extent_of, places_of};
-ghost use Rattle.expand.specs.declared.PartsAnswer.TheVariants.{Missing, At};
 ghost use Rattle.expand.specs.Blocks.{stored, parts_of, wrapped, Replaced, Lifted, Stepped, Whole, Unmarked, Passed, used_baseline, untaken, step_of, gap_zero, steps_answer, steps_pixels, frame_answer};
 
 use layout::{BinaryTables, EntryWidth, Image, Underflows, Width};
 use refusal::Refusal;
-
-// Where an accepted frame ends, or why it is refused.
-#[derive(Clone, Copy)]
-pub enum Expanded {
-    Frame { end: u64 },
-    Refused(Refusal),
-}
 
 // The next entries of the two-byte and the four-byte table.
 #[derive(Clone, Copy)]
@@ -45,13 +37,22 @@ struct Taken {
     over: bool,
 }
 
-// Step c: whether it applies, its entries and the baseline.
+// Step c: whether it applies, its entries and the baseline. Numbers beside the flag, not an Option of them: the blocks are specified by
+// the entries' width and the baseline in each case, 1 and 0 where step c does not apply.
 #[derive(Clone, Copy)]
 struct StepC {
     applies: bool,
     width: EntryWidth,
     count: u32,
     baseline: u32,
+}
+
+// The entries of the three tables, without padding.
+#[derive(Clone, Copy)]
+struct Tables<'a> {
+    two: &'a [u8],
+    four: &'a [u8],
+    under: &'a [u8],
 }
 
 // Where a table lies; its entries end where its padding starts.
@@ -71,42 +72,13 @@ pub struct Places {
     pub four: Extent,
 }
 
-// Where a frame's parts lie, or that some are not there.
-#[derive(Clone, Copy)]
-pub enum PartsAnswer {
-    Missing,
-    At(Places),
-}
-
-// Some byte is `mark`. No early exit, so that the loop is made of vector instructions.
-fn has_byte(s: &[u8], mark: u8) -> bool
-    ensures { result ≡ nat_lt 0 (count mark s.now) }
-{
-    let mut found = false;
-    let mut i = 0;
-    while i < s.len() {
-        if s[i] == mark {
-            found = true;
-        }
-        i += 1;
-    }
-    found
-}
-
-// Some number is `mark`.
-fn has_mark(s: &[u32], mark: u32) -> bool
-    ensures { result ≡ nat_lt 0 (count mark s.now) }
-{
-    let mut found = false;
-    let mut i = 0;
-    while i < s.len() {
-        if s[i] == mark {
-            found = true;
-        }
-        i += 1;
-    }
-    found
-}
+// No entry taken, and no sum too large.
+const UNTAKEN: Taken = Taken {
+    two: 0,
+    four: 0,
+    under: 0,
+    over: false,
+};
 
 // Each `mark` takes the next entry of t, from entry `from` on. The answer: the next entry's place.
 fn fill_marked(pixels: &mut [u32], mark: u32, t: &[u8], w: Width, from: usize) -> usize
@@ -115,13 +87,11 @@ fn fill_marked(pixels: &mut [u32], mark: u32, t: &[u8], w: Width, from: usize) -
     ensures pixels_after { pixels.new ≡ replace mark pixels.old (drop from (whole_entries (width_bytes w) t.now)) }
 {
     let mut k = from;
-    let mut i = 0;
-    while i < pixels.len() {
-        if pixels[i] == mark {
-            pixels[i] = table::entry(t, w, k);
+    for v in pixels.iter_mut() {
+        if *v == mark {
+            *v = table::entry(t, w, k);
             k += 1;
         }
-        i += 1;
     }
     k
 }
@@ -132,7 +102,7 @@ fn fill_some(pixels: &mut [u32], mark: u32, t: &[u8], w: Width, from: usize) -> 
     ensures value { result ≡ from + count mark pixels.old }
     ensures pixels_after { pixels.new ≡ replace mark pixels.old (drop from (whole_entries (width_bytes w) t.now)) }
 {
-    if has_mark(pixels, mark) {
+    if table::holds(pixels, mark) {
         fill_marked(pixels, mark, t, w, from)
     } else {
         from
@@ -146,7 +116,7 @@ fn replace_block1(image: &[u8], two: &[u8], four: &[u8], pixels: &mut [u32], c: 
 {
     let n = pixels.len();
     table::load(image, Width::One, pixels);
-    if has_byte(&image[..n], 255) {
+    if table::holds(&image[..n], 255) {
         let two = fill_marked(pixels, 255, two, Width::Two, c.two);
         let four = fill_some(pixels, 65535, four, Width::Four, c.four);
         Cursors { two, four }
@@ -185,10 +155,8 @@ fn replace_block(
 fn lift(pixels: &mut [u32], base: u32)
     ensures { pixels.new ≡ map (wrapped base) pixels.old }
 {
-    let mut i = 0;
-    while i < pixels.len() {
-        pixels[i] = std::num::wrapping_add_u32(pixels[i], base);
-        i += 1;
+    for v in pixels.iter_mut() {
+        *v = v.wrapping_add(base);
     }
 }
 
@@ -204,35 +172,17 @@ fn any_too_large(s: &[u32], base: u32) -> bool
     ensures { result ≡ any_too_large base s.now }
 {
     let mut over = false;
-    let mut i = 0;
-    while i < s.len() {
-        over = past(over, s[i], base);
-        i += 1;
+    for v in s {
+        over = past(over, *v, base);
     }
     over
-}
-
-fn either(a: bool, b: bool) -> bool
-    ensures { result ≡ (a || b) }
-{
-    if a { true } else { b }
 }
 
 // Step c at one pixel: e is its entry if it takes one.
 fn choose(v: u32, e: u32, base: u32) -> u32
     ensures { result ≡ if◌then◌else◌ (v == 0) e (wrapped base v) }
 {
-    if v == 0 {
-        e
-    } else {
-        std::num::wrapping_add_u32(v, base)
-    }
-}
-
-fn one_if_zero(v: u32) -> usize
-    ensures { result ≡ if◌then◌else◌ (v == 0) 1 0 }
-{
-    if v == 0 { 1 } else { 0 }
+    if v == 0 { e } else { v.wrapping_add(base) }
 }
 
 // Step c: each 0 takes the next entry of t, every other number gains base. The body has no branch on the pixel.
@@ -242,13 +192,10 @@ fn lift_marked(pixels: &mut [u32], t: &[u8], w: Width, base: u32, from: usize) -
     ensures pixels_after { pixels.new ≡ fill_by 0 (wrapped base) pixels.old (drop from (whole_entries (width_bytes w) t.now)) }
 {
     let mut k = from;
-    let mut i = 0;
-    while i < pixels.len() {
-        let v = pixels[i];
+    for v in pixels.iter_mut() {
         let e = table::entry(t, w, k);
-        pixels[i] = choose(v, e, base);
-        k += one_if_zero(v);
-        i += 1;
+        k += usize::from(*v == 0);
+        *v = choose(*v, e, base);
     }
     k
 }
@@ -263,8 +210,8 @@ fn lift_block(pixels: &mut [u32], under: &[u8], c: StepC, u: Under) -> Under
     }
     let base = c.baseline;
     let large = any_too_large(pixels, base);
-    let over = either(u.over, large);
-    if !has_mark(pixels, 0) {
+    let over = u.over | large;
+    if !table::holds(pixels, 0) {
         lift(pixels, base);
         return Under { next: u.next, over };
     }
@@ -305,29 +252,26 @@ fn block_end(w: Width, p: usize, n: usize) -> usize
     requires { p < n }
     ensures { (p < result) × (result ≤ n) }
 {
-    let size = block_size(w);
-    if size < n - p { p + size } else { n }
+    p + block_size(w).min(n - p)
 }
 
 // The three steps of a block.
 fn step_block(
     image: &[u8],
     w: Width,
-    two: &[u8],
-    four: &[u8],
-    under: &[u8],
+    tables: Tables,
     c: StepC,
     pixels: &mut [u32],
     t: Taken,
 ) -> Taken
     requires { (length pixels.old * width_bytes w ≤ length image.now) × (t.two + length pixels.old < 2 ^ 64) × (t.four + length pixels.old < 2 ^ 64) × (t.under + length pixels.old < 2 ^ 64) }
-    ensures { Stepped (width_bytes w) c.applies c.baseline (parts_of (width_bytes w) (entry_bytes c.width) (length pixels.old) image.now under.now two.now four.now) pixels.new t result }
+    ensures { Stepped (width_bytes w) c.applies c.baseline (parts_of (width_bytes w) (entry_bytes c.width) (length pixels.old) image.now tables.entry.under.now tables.entry.two.now tables.entry.four.now) pixels.new t result }
 {
     let k = replace_block(
         image,
         w,
-        two,
-        four,
+        tables.two,
+        tables.four,
         pixels,
         Cursors {
             two: t.two,
@@ -336,7 +280,7 @@ fn step_block(
     );
     let u = lift_block(
         pixels,
-        under,
+        tables.under,
         c,
         Under {
             next: t.under,
@@ -351,31 +295,19 @@ fn step_block(
     }
 }
 
-// The three steps of all blocks.
-fn blocks(
-    image: &[u8],
-    w: Width,
-    two: &[u8],
-    four: &[u8],
-    under: &[u8],
-    c: StepC,
-    pixels: &mut [u32],
-) -> Taken
+// The three steps of all blocks. Each block's end is the next one's start: a count of blocks, whose size goes by the width, would
+// need a division and two products more.
+fn blocks(image: &[u8], w: Width, tables: Tables, c: StepC, pixels: &mut [u32]) -> Taken
     requires { length pixels.old * width_bytes w ≤ length image.now }
-    ensures { Whole (width_bytes w) c.applies c.baseline (parts_of (width_bytes w) (entry_bytes c.width) (length pixels.old) image.now under.now two.now four.now) pixels.new result }
+    ensures { Whole (width_bytes w) c.applies c.baseline (parts_of (width_bytes w) (entry_bytes c.width) (length pixels.old) image.now tables.entry.under.now tables.entry.two.now tables.entry.four.now) pixels.new result }
 {
     let each = layout::width_bytes(w);
-    let mut t = Taken {
-        two: 0,
-        four: 0,
-        under: 0,
-        over: false,
-    };
+    let mut t = UNTAKEN;
     let mut p = 0;
     while p < pixels.len() {
         let e = block_end(w, p, pixels.len());
         let at = p * each;
-        t = step_block(&image[at..], w, two, four, under, c, &mut pixels[p..e], t);
+        t = step_block(&image[at..], w, tables, c, &mut pixels[p..e], t);
         p = e;
     }
     t
@@ -419,7 +351,7 @@ fn replace_pixel(b: u8, two: &[u8], four: &[u8], c: Cursors) -> ReplacedPixel
 {
     if b != 255 {
         return ReplacedPixel {
-            value: b as u32,
+            value: u32::from(b),
             next: c,
         };
     }
@@ -463,7 +395,7 @@ fn lift_pixel(v: u32, under: &[u8], c: StepC, u: Under) -> LiftedPixel
         };
     }
     let over = past(u.over, v, c.baseline);
-    let value = std::num::wrapping_add_u32(v, c.baseline);
+    let value = v.wrapping_add(c.baseline);
     LiftedPixel {
         value,
         under: Under { next: u.next, over },
@@ -471,14 +403,14 @@ fn lift_pixel(v: u32, under: &[u8], c: StepC, u: Under) -> LiftedPixel
 }
 
 // The three steps of one stored byte.
-fn step_pixel(b: u8, two: &[u8], four: &[u8], under: &[u8], c: StepC, t: Taken) -> SteppedPixel
+fn step_pixel(b: u8, tables: Tables, c: StepC, t: Taken) -> SteppedPixel
     requires { (t.two + 1 < 2 ^ 64) × (t.four + 1 < 2 ^ 64) × (t.under + 1 < 2 ^ 64) }
-    ensures { Stepped 1 c.applies c.baseline (stored (b ∷ []) (whole_entries (entry_bytes c.width) under.now) (whole_entries 2 two.now) (whole_entries 4 four.now)) (result.value ∷ []) t result.taken }
+    ensures { Stepped 1 c.applies c.baseline (stored (b ∷ []) (whole_entries (entry_bytes c.width) tables.entry.under.now) (whole_entries 2 tables.entry.two.now) (whole_entries 4 tables.entry.four.now)) (result.value ∷ []) t result.taken }
 {
     let r = replace_pixel(
         b,
-        two,
-        four,
+        tables.two,
+        tables.four,
         Cursors {
             two: t.two,
             four: t.four,
@@ -487,7 +419,7 @@ fn step_pixel(b: u8, two: &[u8], four: &[u8], under: &[u8], c: StepC, t: Taken) 
     let k = r.next;
     let l = lift_pixel(
         r.value,
-        under,
+        tables.under,
         c,
         Under {
             next: t.under,
@@ -510,26 +442,14 @@ fn step_pixel(b: u8, two: &[u8], four: &[u8], under: &[u8], c: StepC, t: Taken) 
 fn is_mark(b: u8, applies: bool) -> bool
     ensures { result ≡ false → Unmarked applies (b ∷ []) }
 {
-    if b == 255 {
-        return true;
-    }
-    if b == 0 {
-        return applies;
-    }
-    false
+    b == 255 || (applies && b == 0)
 }
 
 // Whether some byte takes an entry.
 fn any_mark(s: &[u8], applies: bool) -> bool
     ensures { result ≡ false → Unmarked applies s.now }
 {
-    if has_byte(s, 255) {
-        return true;
-    }
-    if !applies {
-        return false;
-    }
-    has_byte(s, 0)
+    table::holds(s, 255) || (applies && table::holds(s, 0))
 }
 
 // The first byte from p on that takes an entry, or end.
@@ -537,14 +457,12 @@ fn first_mark(s: &[u8], p: usize, end: usize, applies: bool) -> usize
     requires { (p ≤ end) × (end ≤ length s.now) }
     ensures { Passed applies s.now p end result }
 {
-    let mut q = p;
-    while q < end {
+    for q in p..end {
         if is_mark(s[q], applies) {
             return q;
         }
-        q += 1;
     }
-    q
+    end
 }
 
 // The same, 16 bytes at a time as long as none of them takes an entry.
@@ -552,15 +470,13 @@ fn next_mark(s: &[u8], p: usize, end: usize, applies: bool) -> usize
     requires { (p ≤ end) × (end ≤ length s.now) }
     ensures { Passed applies s.now p end result }
 {
-    let mut q = p;
-    while 16 <= end - q {
-        let e = q + 16;
-        if any_mark(&s[q..e], applies) {
-            break;
+    for k in 0..(end - p) / 16 {
+        let q = p + k * 16;
+        if any_mark(&s[q..q + 16], applies) {
+            return first_mark(s, q, end, applies);
         }
-        q = e;
     }
-    first_mark(s, q, end, applies)
+    first_mark(s, end - (end - p) % 16, end, applies)
 }
 
 // Numbers that are bytes, each with base.
@@ -568,10 +484,8 @@ fn lift_bytes(image: &[u8], base: u32, pixels: &mut [u32])
     requires { length image.now ≡ length pixels.old }
     ensures { pixels.new ≡ map (wrapped base) image.now }
 {
-    let mut i = 0;
-    while i < pixels.len() {
-        pixels[i] = std::num::wrapping_add_u32(image[i] as u32, base);
-        i += 1;
+    for (i, v) in pixels.iter_mut().enumerate() {
+        *v = u32::from(image[i]).wrapping_add(base);
     }
 }
 
@@ -587,28 +501,17 @@ fn run_end(p: usize, n: usize) -> usize
     requires { p ≤ n }
     ensures { (p ≤ result) × (result ≤ n) }
 {
-    if 512 < n - p { p + 512 } else { n }
+    p + (n - p).min(512)
 }
 
-// The three steps of all pixels of width 1 where few take an entry: runs of those that take none, and each other by itself.
-fn step_runs(
-    image: &[u8],
-    two: &[u8],
-    four: &[u8],
-    under: &[u8],
-    c: StepC,
-    pixels: &mut [u32],
-) -> Taken
+// The three steps of all pixels of width 1 where few take an entry: runs of those that take none, and each other by itself. How far a
+// turn comes is the bytes', so the loop counts by itself.
+fn step_runs(image: &[u8], tables: Tables, c: StepC, pixels: &mut [u32]) -> Taken
     requires { (length pixels.old ≤ length image.now) × (c.baseline ≤ 65535) }
-    ensures { Whole 1 c.applies c.baseline (parts_of 1 (entry_bytes c.width) (length pixels.old) image.now under.now two.now four.now) pixels.new result }
+    ensures { Whole 1 c.applies c.baseline (parts_of 1 (entry_bytes c.width) (length pixels.old) image.now tables.entry.under.now tables.entry.two.now tables.entry.four.now) pixels.new result }
 {
     let base = used_baseline(c);
-    let mut t = Taken {
-        two: 0,
-        four: 0,
-        under: 0,
-        over: false,
-    };
+    let mut t = UNTAKEN;
     let n = pixels.len();
     let mut p = 0;
     loop {
@@ -618,7 +521,7 @@ fn step_runs(
         if q == n {
             break;
         }
-        let x = step_pixel(image[q], two, four, under, c, t);
+        let x = step_pixel(image[q], tables, c, t);
         pixels[q] = x.value;
         t = x.taken;
         p = q + 1;
@@ -630,30 +533,19 @@ fn step_runs(
 fn expects_few(w: Width, c: StepC, two: usize, four: usize, n: usize) -> bool
     ensures { result ≡ true → (w ≡ One) × (c.baseline ≤ 65535) }
 {
-    let Width::One = w else {
-        return false;
-    };
-    if 65535 < c.baseline {
-        return false;
-    }
     let few = n / 16;
-    if few < c.count as usize {
-        return false;
-    }
-    if few < two {
-        return false;
-    }
-    four <= few
+    matches!(w, Width::One)
+        && c.baseline <= 65535
+        && c.count as usize <= few
+        && two <= few
+        && four <= few
 }
 
 // Width 4 where step c does not apply: the stored values are the pixels, and no table has an entry.
 fn is_plain(w: Width, c: StepC) -> bool
     ensures { result ≡ true → (w ≡ Four) × (c.applies ≡ false) }
 {
-    let Width::Four = w else {
-        return false;
-    };
-    !c.applies
+    matches!(w, Width::Four) && !c.applies
 }
 
 // The stored values of width 4 as the pixels.
@@ -663,76 +555,66 @@ fn load_plain(image: &[u8], pixels: &mut [u32]) -> Taken
     ensures pixels_after { pixels.new ≡ entries 4 (length pixels.old) image.now }
 {
     table::load_halves(image, Width::Four, pixels);
-    Taken {
-        two: 0,
-        four: 0,
-        under: 0,
-        over: false,
-    }
+    UNTAKEN
 }
 
 // The three steps of all blocks, by the way that suits the frame.
-fn all_blocks(
-    image: &[u8],
-    w: Width,
-    two: &[u8],
-    four: &[u8],
-    under: &[u8],
-    c: StepC,
-    pixels: &mut [u32],
-) -> Taken
+fn all_blocks(image: &[u8], w: Width, tables: Tables, c: StepC, pixels: &mut [u32]) -> Taken
     requires { length pixels.old * width_bytes w ≤ length image.now }
-    ensures { Whole (width_bytes w) c.applies c.baseline (parts_of (width_bytes w) (entry_bytes c.width) (length pixels.old) image.now under.now two.now four.now) pixels.new result }
+    ensures { Whole (width_bytes w) c.applies c.baseline (parts_of (width_bytes w) (entry_bytes c.width) (length pixels.old) image.now tables.entry.under.now tables.entry.two.now tables.entry.four.now) pixels.new result }
 {
-    if expects_few(w, c, two.len() / 2, four.len() / 4, pixels.len()) {
-        return step_runs(image, two, four, under, c, pixels);
+    if expects_few(
+        w,
+        c,
+        tables.two.len() / 2,
+        tables.four.len() / 4,
+        pixels.len(),
+    ) {
+        return step_runs(image, tables, c, pixels);
     }
     if is_plain(w, c) {
         return load_plain(image, pixels);
     }
-    blocks(image, w, two, four, under, c, pixels)
+    blocks(image, w, tables, c, pixels)
 }
 
 // Each step took exactly the entries that there are.
 fn used_up(t: Taken, two: usize, four: usize, under: usize) -> bool
     ensures { result ≡ (t.two == two && t.four == four && t.under == under) }
 {
-    if t.two != two {
-        return false;
-    }
-    if t.four != four {
-        return false;
-    }
-    t.under == under
+    t.two == two && t.four == four && t.under == under
 }
 
 // The steps on exactly the pixels of the image, and tables that hold only entries; zeros where refused.
 fn expand_parts(
     image: &[u8],
     w: Width,
-    two: &[u8],
-    four: &[u8],
-    under: &[u8],
+    tables: Tables,
     c: StepC,
     end: u64,
     pixels: &mut [u32],
-) -> Expanded
+) -> Result<u64, Refusal>
     requires { length pixels.old * width_bytes w ≤ length image.now }
-    ensures value { result ≡ steps_answer (width_bytes w) c.applies c.baseline end (parts_of (width_bytes w) (entry_bytes c.width) (length pixels.old) image.now under.now two.now four.now) }
-    ensures pixels_after { pixels.new ≡ steps_pixels (width_bytes w) c.applies c.baseline (length pixels.old) (parts_of (width_bytes w) (entry_bytes c.width) (length pixels.old) image.now under.now two.now four.now) }
+    ensures value { result ≡ steps_answer (width_bytes w) c.applies c.baseline end (parts_of (width_bytes w) (entry_bytes c.width) (length pixels.old) image.now tables.entry.under.now tables.entry.two.now tables.entry.four.now) }
+    ensures pixels_after { pixels.new ≡ steps_pixels (width_bytes w) c.applies c.baseline (length pixels.old) (parts_of (width_bytes w) (entry_bytes c.width) (length pixels.old) image.now tables.entry.under.now tables.entry.two.now tables.entry.four.now) }
 {
     let e = c.width;
     let each = layout::entry_bytes(e);
-    let t = all_blocks(image, w, two, four, under, c, pixels);
-    if !used_up(t, two.len() / 2, four.len() / 4, under.len() / each) {
+    let t = all_blocks(image, w, tables, c, pixels);
+    if !used_up(
+        t,
+        tables.two.len() / 2,
+        tables.four.len() / 4,
+        tables.under.len() / each,
+    ) {
         table::clear(pixels);
-        return Expanded::Refused(Refusal::CountMismatch);
+        return Err(Refusal::CountMismatch);
     }
     if t.over {
         table::clear(pixels);
-        return Expanded::Refused(Refusal::SumTooLarge);
+        return Err(Refusal::SumTooLarge);
     }
-    Expanded::Frame { end }
+    Ok(end)
 }
 
 fn step_of(u: Underflows) -> StepC
@@ -818,22 +700,16 @@ fn paddings_zero(bytes: &[u8], under: Extent, two: Extent, four: Extent) -> bool
     requires { (under.padding ≤ under.end) × (under.end ≤ length bytes.now) × (two.padding ≤ two.end) × (two.end ≤ length bytes.now) × (four.padding ≤ four.end) × (four.end ≤ length bytes.now) }
     ensures { result ≡ (gap_zero under bytes.now && gap_zero two bytes.now && gap_zero four bytes.now) }
 {
-    if !padding_zero(bytes, under) {
-        return false;
-    }
-    if !padding_zero(bytes, two) {
-        return false;
-    }
-    padding_zero(bytes, four)
+    padding_zero(bytes, under) && padding_zero(bytes, two) && padding_zero(bytes, four)
 }
 
 // Where the parts of a frame lie, if they are there and the padding of each table is zero.
-pub fn parts_of(bytes: &[u8], image: Image, tables: BinaryTables) -> PartsAnswer
-    ensures { result ≡ if◌then◌else◌ (parts_whole bytes.now image tables) (At (places_of image tables)) Missing }
+pub fn parts_of(bytes: &[u8], image: Image, tables: BinaryTables) -> Option<Places>
+    ensures { result ≡ if◌then◌else◌ (parts_whole bytes.now image tables) (Some (places_of image tables)) None }
 {
     let n = layout::pixel_count(image);
     if 4294967296 < n {
-        return PartsAnswer::Missing;
+        return None;
     }
     let p = places_of(image, tables, n);
     let under = p.under;
@@ -841,12 +717,12 @@ pub fn parts_of(bytes: &[u8], image: Image, tables: BinaryTables) -> PartsAnswer
     let four = p.four;
     let end = four.end;
     if bytes.len() < end {
-        return PartsAnswer::Missing;
+        return None;
     }
     if !paddings_zero(bytes, under, two, four) {
-        return PartsAnswer::Missing;
+        return None;
     }
-    PartsAnswer::At(p)
+    Some(p)
 }
 
 // 12, and then the steps, on exactly the pixels of the image.
@@ -856,7 +732,7 @@ fn expand_frame(
     tables: BinaryTables,
     p: Places,
     pixels: &mut [u32],
-) -> Expanded
+) -> Result<u64, Refusal>
     requires { (p ≡ places_of image tables) × (binary_end image tables ≤ length bytes.now) × (length pixels.old ≡ pixel_count image) }
     ensures value { result ≡ frame_answer bytes.now image tables }
     ensures pixels_after { pixels.new ≡ first_pixels bytes.now image tables }
@@ -866,7 +742,7 @@ fn expand_frame(
     let four = p.four;
     if !paddings_zero(bytes, under, two, four) {
         table::clear(pixels);
-        return Expanded::Refused(Refusal::PaddingNotZero);
+        return Err(Refusal::PaddingNotZero);
     }
     let u = tables.underflows;
     let c = step_of(u);
@@ -881,9 +757,11 @@ fn expand_frame(
     expand_parts(
         &bytes[start..us],
         w,
-        &bytes[ts..te],
-        &bytes[fs..fe],
-        &bytes[us..ue],
+        Tables {
+            two: &bytes[ts..te],
+            four: &bytes[fs..fe],
+            under: &bytes[us..ue],
+        },
         c,
         four.end as u64,
         pixels,
@@ -891,18 +769,23 @@ fn expand_frame(
 }
 
 // Expands a frame of FORMAT 100 into the start of pixels.
-pub fn expand(bytes: &[u8], image: Image, tables: BinaryTables, pixels: &mut [u32]) -> Expanded
+pub fn expand(
+    bytes: &[u8],
+    image: Image,
+    tables: BinaryTables,
+    pixels: &mut [u32],
+) -> Result<u64, Refusal>
     ensures value { result ≡ binary_answer bytes.now image tables (length pixels.old) }
     ensures pixels_after { pixels.new ≡ binary_pixels bytes.now image tables pixels.old }
 {
     let n = layout::pixel_count(image);
     if pixels.len() < n {
-        return Expanded::Refused(Refusal::PixelArrayShort);
+        return Err(Refusal::PixelArrayShort);
     }
     let p = places_of(image, tables, n);
     let four = p.four;
     if bytes.len() < four.end {
-        return Expanded::Refused(Refusal::DataTruncated);
+        return Err(Refusal::DataTruncated);
     }
     expand_frame(bytes, image, tables, p, &mut pixels[..n])
 }

@@ -2,61 +2,31 @@
 #![tactic(auto)]
 
 use console::Output;
-use reader::ReadAnswer;
+use layout::Frame;
 use std::fs::File;
 use std::io::Write;
 use std::{env, fs, io};
 
-fn word(stdout: &mut Output, text: &[u8]) -> io::Result<()> {
-    stdout.write_all(text)
-}
-
-fn number(stdout: &mut Output, text: &[u8], n: u64) -> io::Result<()> {
-    stdout.write_all(text)?;
-    console::print_decimal(stdout, n)
-}
-
-fn show_pixel(stdout: &mut Output, v: u32) -> io::Result<()> {
-    number(stdout, b" ", v as u64)
-}
-
+// Numbers, each behind a space.
 fn show_pixels(stdout: &mut Output, pixels: &[u32]) -> io::Result<()> {
-    let mut i = 0;
-    while i < pixels.len() {
-        show_pixel(stdout, pixels[i])?;
-        i += 1;
+    for v in pixels {
+        write!(stdout, " {v}")?;
     }
     Ok(())
 }
 
-fn pixel_count(rows: u32, columns: u32) -> usize {
-    (rows as usize) * (columns as usize)
-}
-
-// The frame's pixels, at the front of the array.
-fn show_first(stdout: &mut Output, pixels: &[u32], n: usize) -> io::Result<()> {
-    if n <= pixels.len() {
-        show_pixels(stdout, &pixels[..n])?;
-    }
-    Ok(())
-}
-
+// The frame's pixels stand at the front of the array.
 fn show_frame(stdout: &mut Output, frame: &[u8]) -> io::Result<()> {
     let mut pixels = [0u32; 4224];
-    let answer = reader::read(frame, &mut pixels);
-    match answer {
-        ReadAnswer::Frame { rows, columns, end } => {
-            number(stdout, b": ", rows as u64)?;
-            number(stdout, b" x ", columns as u64)?;
-            number(stdout, b", end ", end)?;
-            word(stdout, b":")?;
-            show_first(stdout, &pixels, pixel_count(rows, columns))?;
+    match reader::read(frame, &mut pixels) {
+        Ok(Frame { rows, columns, end }) => {
+            write!(stdout, ": {rows} x {columns}, end {end}:")?;
+            let n = (rows as usize) * (columns as usize);
+            show_pixels(stdout, pixels.get(..n).unwrap_or(&[]))?;
         }
-        ReadAnswer::Refused(r) => {
-            number(stdout, b": refused ", refusal::number_of(r) as u64)?;
-        }
+        Err(r) => write!(stdout, ": refused {}", refusal::number_of(r))?,
     }
-    word(stdout, b"\n")
+    writeln!(stdout)
 }
 
 // A frame of at most 65,536 bytes.
@@ -82,7 +52,7 @@ fn fail(rt: &HostRuntime, path: &str, error: io::Error) -> io::Result<()> {
 }
 
 fn show_argument(rt: &HostRuntime, stdout: &mut Output, path: &str) -> io::Result<()> {
-    word(stdout, path.as_bytes())?;
+    stdout.write_all(path.as_bytes())?;
     match fs::open(rt, path) {
         Ok(mut file) => show_file(stdout, &mut file),
         Err(e) => fail(rt, path, e),

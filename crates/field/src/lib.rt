@@ -4,7 +4,7 @@
 ghost use Rattle.std.specs.Prelude.{◌≡◌};
 ghost use Rattle.field.specs.Fields.{field_from, number_field, version_field, count_field, decimal_field};
 
-use numeral::{Class, Number};
+use numeral::Class;
 
 // The place in a line after the last field taken.
 #[derive(Clone, Copy)]
@@ -14,105 +14,74 @@ pub struct Cursor {
 
 // The next field stands from start to end; next reads on from there.
 #[derive(Clone, Copy)]
-pub enum Field {
-    Found {
-        start: usize,
-        end: usize,
-        next: Cursor,
-    },
-    Missing,
+pub struct Field {
+    pub start: usize,
+    pub end: usize,
+    pub next: Cursor,
 }
 
-// A field that is a number, and the cursor behind it. Bad: missing or no such number.
-#[derive(Clone, Copy)]
-pub enum NumberField {
-    Read(u32, Cursor),
-    Bad,
-}
-
-// A field that is a number or -1.
-#[derive(Clone, Copy)]
-pub enum CountField {
-    Read(u32, Cursor),
-    MinusOne(Cursor),
-    Bad,
-}
-
-// A field that is a decimal number of a given value.
-#[derive(Clone, Copy)]
-pub enum DecimalField {
-    Equal(Cursor),
-    Other,
-}
-
+// The next field, and the number or the like that it holds, are taken by value with the cursor behind them (document 01, list of forms by place).
 impl Cursor {
     // The next field: past the spaces, up to the next space or the line's end.
-    pub fn field(self, line: &[u8]) -> Field
+    #[tactic(auto, unfolding(crate::specs::Fields::field_from))]
+    pub fn field(self, line: &[u8]) -> Option<Field>
         ensures { result ≡ field_from line.now self.at }
     {
         let at = self.at;
         let start = numeral::run_end(Class::Space, line, at);
         let end = numeral::run_end(Class::Other, line, start);
         if start == end {
-            return Field::Missing;
+            return None;
         }
-        Field::Found {
+        Some(Field {
             start,
             end,
             next: Cursor { at: end },
-        }
+        })
     }
 
-    pub fn number(self, line: &[u8]) -> NumberField
+    #[tactic(auto, unfolding(crate::specs::Fields::number_field))]
+    pub fn number(self, line: &[u8]) -> Option<(u32, Cursor)>
         ensures { result ≡ number_field line.now self.at }
     {
-        let Field::Found { start, end, next } = self.field(line) else {
-            return NumberField::Bad;
-        };
-        let Number::Value(n) = numeral::number_of(&line[start..end]) else {
-            return NumberField::Bad;
-        };
-        NumberField::Read(n, next)
+        let Field { start, end, next } = self.field(line)?;
+        let n = numeral::number_of(&line[start..end])?;
+        Some((n, next))
     }
 
-    pub fn version(self, line: &[u8]) -> NumberField
+    #[tactic(auto, unfolding(crate::specs::Fields::version_field))]
+    pub fn version(self, line: &[u8]) -> Option<(u32, Cursor)>
         ensures { result ≡ version_field line.now self.at }
     {
-        let Field::Found { start, end, next } = self.field(line) else {
-            return NumberField::Bad;
-        };
-        let Number::Value(n) = numeral::version_of(&line[start..end]) else {
-            return NumberField::Bad;
-        };
-        NumberField::Read(n, next)
+        let Field { start, end, next } = self.field(line)?;
+        let n = numeral::version_of(&line[start..end])?;
+        Some((n, next))
     }
 
-    pub fn count(self, line: &[u8]) -> CountField
+    // None stands for -1.
+    #[tactic(auto, unfolding(crate::specs::Fields::count_field))]
+    pub fn count(self, line: &[u8]) -> Option<(Option<u32>, Cursor)>
         ensures { result ≡ count_field line.now self.at }
     {
-        let Field::Found { start, end, next } = self.field(line) else {
-            return CountField::Bad;
-        };
+        let Field { start, end, next } = self.field(line)?;
         let text = &line[start..end];
         if numeral::is_minus_one(text) {
-            return CountField::MinusOne(next);
+            return Some((None, next));
         }
-        let Number::Value(n) = numeral::number_of(text) else {
-            return CountField::Bad;
-        };
-        CountField::Read(n, next)
+        let n = numeral::number_of(text)?;
+        Some((Some(n), next))
     }
 
-    pub fn decimal(self, line: &[u8], n: u32) -> DecimalField
+    // The cursor behind a decimal number that is n.
+    #[tactic(auto, unfolding(crate::specs::Fields::decimal_field))]
+    pub fn decimal(self, line: &[u8], n: u32) -> Option<Cursor>
         ensures { result ≡ decimal_field n line.now self.at }
     {
-        let Field::Found { start, end, next } = self.field(line) else {
-            return DecimalField::Other;
-        };
+        let Field { start, end, next } = self.field(line)?;
         if numeral::decimal_is(&line[start..end], n) {
-            DecimalField::Equal(next)
+            Some(next)
         } else {
-            DecimalField::Other
+            None
         }
     }
 }

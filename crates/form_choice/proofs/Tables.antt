@@ -1,21 +1,16 @@
 -- The tables that a form has.
 -- Assumes nothing.
-use mathlib.Core.Path.{◌≡◌, refl, sym, ap, ◌∙◌}
-use mathlib.Core.Bool.{Bool}
+use mathlib.Core.Path.{◌≡◌, refl, sym, ◌∙◌}
 use Prim.Native.Nat.{ℕ, ◌+◌, ◌<◌}
 use native.Mathlib.Omega.{arith}
 use Rattle.layout.specs.declared.Width.{Width}
 use Rattle.layout.specs.declared.Width.TheVariants as W
 use Rattle.layout.specs.declared.Underflow.{Underflow}
 use Rattle.layout.specs.declared.Underflow.TheVariants as U
-use Rattle.layout.specs.declared.Form.{Form}
 use Rattle.layout.specs.Form.{underflow_bytes}
 use Rattle.layout.specs.Layout.{table_bytes}
 use Rattle.layout.proofs.Laws.{table-small, table_none}
 use Rattle.pixel_counts.specs.Counts.{under_count, two_count, four_count}
-use Rattle.survey.specs.declared.Survey.{Survey}
-use Rattle.form_choice.specs.declared.Choice.{Choice}
-use Rattle.form_choice.specs.Lengths.{candidate_in, candidate_of}
 
 pub table_empty : (w : ℕ) → table_bytes w 0 ≡ 0
 unfolding table_bytes
@@ -41,8 +36,3 @@ overflow-small w two four h k =
     let p = table-small 2 (two_count w two) (omega arith) (two-below w two h) in
     let q = table-small 4 (four_count w four) (omega arith) (four_below w four k) in
     omega arith
-
--- a candidate by its kind
-pub candidate-by : (header n : ℕ) (given : Bool) (s : Survey) (form : Form) (u : Underflow) (r : Choice) → form.underflow ≡ u → r ≡ candidate_in header n given s form u → r ≡ candidate_of header n given s form
-unfolding candidate_of
-candidate-by header n given s form u r e q = q ∙ sym (ap (λ (v : Underflow). candidate_in header n given s form v) e)

@@ -1,7 +1,7 @@
 // The smallest of the nine forms, by what was counted.
 #![tactic(auto)]
 
-ghost use Rattle.std.specs.Prelude.{◌≡◌, ◌+◌};
+ghost use Rattle.std.specs.Prelude.{◌≡◌, ◌+◌, Ok};
 ghost use Rattle.layout.specs.Form.{form_of};
 ghost use Rattle.layout.specs.Layout.{table_bytes};
 ghost use Rattle.layout.specs.declared.Underflow.TheVariants.{None, Subtracted};
@@ -17,9 +17,9 @@ use survey::Survey;
 
 // A form with the length of its frame, or why there is none.
 #[derive(Clone, Copy)]
-pub enum Choice {
-    Chosen { form: Form, length: u64 },
-    Refused(Refusal),
+pub struct Chosen {
+    pub form: Form,
+    pub length: u64,
 }
 
 // The bytes of the two-byte and the four-byte table, as far as the width has them.
@@ -34,94 +34,93 @@ fn overflow_bytes(w: Width, c: Counts) -> usize
     }
 }
 
-// A form with the length of its frame of n pixels, behind a header of so many bytes.
-fn measure(header: u32, n: u32, form: Form, c: Counts) -> Choice
-    ensures { result ≡ measured header n form c }
-{
-    let w = form.width;
-    let u = form.underflow;
-    let image = n as usize * layout::width_bytes(w);
-    let under = layout::underflow_table_bytes(u, c.under);
-    let length = header as usize + image + under + overflow_bytes(w, c);
-    Choice::Chosen {
-        form,
-        length: length as u64,
-    }
-}
-
-// A form with the length of its frame, or the writer's refusal of it.
-fn candidate(header: u32, n: u32, given: bool, s: Survey, form: Form) -> Choice
-    ensures { result ≡ candidate_of header n given s form }
-{
-    let u = form.underflow;
-    let Underflow::Subtracted(e) = u else {
-        return measure(header, n, form, s.none);
-    };
-    if given {
-        match e {
-            EntryWidth::One => {
-                if s.large {
-                    Choice::Refused(Refusal::UnderflowTooLarge)
-                } else {
-                    measure(header, n, form, s.subtracted)
-                }
-            }
-            EntryWidth::Two => measure(header, n, form, s.subtracted),
-        }
-    } else {
-        Choice::Refused(Refusal::FormUnavailable)
-    }
-}
-
 // The shorter of two, the first where they are equal.
-fn shorter_of(a: Choice, b: Choice) -> Choice
+fn shorter_of(a: Result<Chosen, Refusal>, b: Result<Chosen, Refusal>) -> Result<Chosen, Refusal>
     ensures { result ≡ shorter a b }
 {
-    match a {
-        Choice::Refused(_) => match b {
-            Choice::Refused(_) => a,
-            Choice::Chosen { form: _, length: _ } => b,
-        },
-        Choice::Chosen { form: _, length: n } => match b {
-            Choice::Refused(_) => a,
-            Choice::Chosen { form: _, length: m } => { if n <= m { a } else { b } }
-        },
-    }
+    let Ok(second) = b else {
+        return a;
+    };
+    let Ok(first) = a else {
+        return b;
+    };
+    if first.length <= second.length { a } else { b }
 }
 
-// A width with a kind before what is chosen behind it.
-fn ahead_of(
+// What the forms are measured by: the bytes of the header, the pixels, whether the header gives a baseline, and what was counted.
+#[derive(Clone, Copy)]
+struct Basis {
     header: u32,
     n: u32,
     given: bool,
-    s: Survey,
-    width: Width,
-    underflow: Underflow,
-    rest: Choice,
-) -> Choice
-    ensures { result ≡ shorter (candidate_of header n given s (form_of width underflow)) rest }
-{
-    let form = Form { width, underflow };
-    shorter_of(candidate(header, n, given, s, form), rest)
+    counted: Survey,
 }
 
-// The three forms of a width before what is chosen behind them.
-fn of_width(header: u32, n: u32, given: bool, s: Survey, w: Width, rest: Choice) -> Choice
-    ensures { result ≡ shorter (candidate_of header n given s (form_of w None)) (shorter (candidate_of header n given s (form_of w (Subtracted One))) (shorter (candidate_of header n given s (form_of w (Subtracted Two))) rest)) }
-{
-    let two = Underflow::Subtracted(EntryWidth::Two);
-    let from_two = ahead_of(header, n, given, s, w, two, rest);
-    let one = Underflow::Subtracted(EntryWidth::One);
-    let from_one = ahead_of(header, n, given, s, w, one, from_two);
-    ahead_of(header, n, given, s, w, Underflow::None, from_one)
+impl Basis {
+    // A form with the length of its frame with so many entries.
+    #[tactic(auto, unfolding(crate::specs::Lengths::length_by, pixel_counts::specs::Counts::counts_for))]
+    fn measure(&self, form: Form, c: Counts) -> Chosen
+        ensures { Ok result ≡ measured self.now.header self.now.n form c }
+    {
+        let image = self.n as usize * layout::width_bytes(form.width);
+        let under = layout::underflow_table_bytes(form.underflow, c.under);
+        let length = self.header as usize + image + under + overflow_bytes(form.width, c);
+        Chosen {
+            form,
+            length: length as u64,
+        }
+    }
+
+    // A form with the length of its frame, or the writer's refusal of it.
+    #[tactic(auto, unfolding(crate::specs::Lengths::candidate_of))]
+    fn candidate(&self, form: Form) -> Result<Chosen, Refusal>
+        ensures { result ≡ candidate_of self.now.header self.now.n self.now.given self.now.counted form }
+    {
+        match form.underflow {
+            Underflow::None => Ok(self.measure(form, self.counted.none)),
+            Underflow::Subtracted(_) if !self.given => Err(Refusal::FormUnavailable),
+            Underflow::Subtracted(EntryWidth::One) if self.counted.large => {
+                Err(Refusal::UnderflowTooLarge)
+            }
+            Underflow::Subtracted(_) => Ok(self.measure(form, self.counted.subtracted)),
+        }
+    }
+
+    // A form before what is chosen behind it.
+    fn before(
+        &self,
+        width: Width,
+        underflow: Underflow,
+        rest: Result<Chosen, Refusal>,
+    ) -> Result<Chosen, Refusal>
+        ensures { result ≡ shorter (candidate_of self.now.header self.now.n self.now.given self.now.counted (form_of width underflow)) rest }
+    {
+        shorter_of(self.candidate(Form { width, underflow }), rest)
+    }
+
+    // The three forms of a width before what is chosen behind them. Three calls, the last form first: a loop over the kinds would need
+    // an array of them, and be no shorter.
+    fn of_width(&self, width: Width, rest: Result<Chosen, Refusal>) -> Result<Chosen, Refusal>
+        ensures { result ≡ shorter (candidate_of self.now.header self.now.n self.now.given self.now.counted (form_of width None)) (shorter (candidate_of self.now.header self.now.n self.now.given self.now.counted (form_of width (Subtracted One))) (shorter (candidate_of self.now.header self.now.n self.now.given self.now.counted (form_of width (Subtracted Two))) rest)) }
+    {
+        let from_two = self.before(width, Underflow::Subtracted(EntryWidth::Two), rest);
+        let from_one = self.before(width, Underflow::Subtracted(EntryWidth::One), from_two);
+        self.before(width, Underflow::None, from_one)
+    }
 }
 
 // The first of the shortest of the nine forms, for n pixels behind a header of so many bytes that gives a baseline or none.
-pub fn choose(header: u32, n: u32, given: bool, s: Survey) -> Choice
+#[tactic(auto, unfolding(crate::specs::Choosing::choice_by, crate::specs::Choosing::forms))]
+pub fn choose(header: u32, n: u32, given: bool, s: Survey) -> Result<Chosen, Refusal>
     ensures { result ≡ choice_by (candidate_of header n given s) forms }
 {
-    let none = Choice::Refused(Refusal::FormUnavailable);
-    let four = of_width(header, n, given, s, Width::Four, none);
-    let two = of_width(header, n, given, s, Width::Two, four);
-    of_width(header, n, given, s, Width::One, two)
+    let basis = Basis {
+        header,
+        n,
+        given,
+        counted: s,
+    };
+    let four = basis.of_width(Width::Four, Err(Refusal::FormUnavailable));
+    let two = basis.of_width(Width::Two, four);
+    basis.of_width(Width::One, two)
 }

@@ -1,12 +1,11 @@
 -- The C interface: the smallest form, and an opening in it, as plain numbers.
-use Rattle.std.specs.Prelude.{ℕ}
+use Rattle.form_choice.specs.declared.Chosen.{Chosen}
+use Rattle.refusal.specs.declared.Refusal.{Refusal}
+use Rattle.std.specs.Prelude.{ℕ, Err, Ok, Result}
 use Rattle.refusal.specs.Codes.{refusal_number, refusal_place}
 use Rattle.layout.specs.declared.Form.{Form}
 use Rattle.layout.specs.Form.{width_bytes, underflow_bytes}
-use Rattle.form_choice.specs.declared.Choice.{Choice}
-use Rattle.form_choice.specs.declared.Choice.TheVariants.{Chosen, Refused}
-use Rattle.opening.specs.declared.OpenAnswer.{OpenAnswer}
-use Rattle.opening.specs.declared.OpenAnswer.TheVariants as O
+use Rattle.opening.specs.declared.Opened.{Opened}
 use Rattle.opening.specs.declared.FormOpened.{FormOpened}
 use Rattle.frame_report.specs.Report.{open_result}
 use Rattle.form_report.specs.declared.FormNumbers.{FormNumbers}
@@ -21,16 +20,19 @@ abbrev pub no_form : FormNumbers
 no_form = record { width = 0; underflow = 0 }
 
 -- the form and the length of its frame, or the refusal's number and value
-abbrev pub form_result : Choice → FormResult
-form_result (Chosen f n) =
-    record { refusal = 0; place = 0; column = 0; width = (form_numbers f).width; underflow = (form_numbers f).underflow; length = n }
-form_result (Refused r) = record { refusal = refusal_number r; place = refusal_place r; column = 0; width = 0; underflow = 0; length = 0 }
+abbrev pub form_result : Result Chosen Refusal → FormResult
+form_result (Ok ch) =
+    record { refusal = 0; place = 0; column = 0; width = (form_numbers ch.form).width; underflow = (form_numbers ch.form).underflow; length = ch.length }
+form_result (Err r) = record { refusal = refusal_number r; place = refusal_place r; column = 0; width = 0; underflow = 0; length = 0 }
 
--- the form held; a refusal names none
-abbrev pub held_numbers : Form → OpenAnswer → FormNumbers
-held_numbers form (O.Opened rows columns end n) = form_numbers form
-held_numbers form (O.NotRead r) = no_form
-held_numbers form (O.NotWritten rows columns end r) = no_form
+-- the form held; where nothing is held there is none
+abbrev pub numbers_by : Form → Result ℕ Refusal → FormNumbers
+numbers_by form (Ok n) = form_numbers form
+numbers_by form (Err r) = no_form
+
+abbrev pub held_numbers : Form → Result Opened Refusal → FormNumbers
+held_numbers form (Ok o) = numbers_by form o.held
+held_numbers form (Err r) = no_form
 
 -- what opening answers, with the form
 abbrev pub open_form_result : FormOpened → OpenFormResult

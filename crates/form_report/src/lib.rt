@@ -2,15 +2,16 @@
 #![tactic(auto)]
 
 ghost use Rattle.std.specs.Prelude.{◌≡◌};
-ghost use Rattle.form_report.specs.Report.{form_numbers, no_form, form_result, held_numbers, open_form_result};
+ghost use Rattle.form_report.specs.Report.{form_numbers, form_result, held_numbers, open_form_result};
 
-use form_choice::Choice;
+use form_choice::Chosen;
 use layout::Form;
-use opening::{FormOpened, OpenAnswer};
+use opening::{FormOpened, Opened};
+use refusal::{Code, Refusal};
 
 // refusal is 0 where the call is accepted. Every field that a case does not name is 0.
 #[repr(C)]
-#[derive(Clone, Copy)]
+#[derive(Clone, Copy, Default)]
 pub struct FormResult {
     pub refusal: u32,
     pub place: u32,
@@ -35,7 +36,7 @@ pub struct OpenFormResult {
 }
 
 // The bytes of a pixel and of an underflow entry.
-#[derive(Clone, Copy)]
+#[derive(Clone, Copy, Default)]
 struct FormNumbers {
     width: u32,
     underflow: u32,
@@ -53,59 +54,37 @@ fn form_numbers(form: Form) -> FormNumbers
 }
 
 // What the smallest form answers.
-pub fn form_result(choice: Choice) -> FormResult
+pub fn form_result(choice: Result<Chosen, Refusal>) -> FormResult
     ensures { result ≡ form_result choice }
 {
     match choice {
-        Choice::Chosen { form, length } => {
+        Ok(Chosen { form, length }) => {
             let n = form_numbers(form);
             FormResult {
-                refusal: 0,
-                place: 0,
-                column: 0,
                 width: n.width,
                 underflow: n.underflow,
                 length,
+                ..FormResult::default()
             }
         }
-        Choice::Refused(r) => FormResult {
-            refusal: refusal::number_of(r),
-            place: refusal::place_of(r),
-            column: 0,
-            width: 0,
-            underflow: 0,
-            length: 0,
-        },
-    }
-}
-
-fn no_form() -> FormNumbers
-    ensures { result ≡ no_form }
-{
-    FormNumbers {
-        width: 0,
-        underflow: 0,
+        Err(r) => {
+            let Code { number, place } = Code::from(r);
+            FormResult {
+                refusal: number,
+                place,
+                ..FormResult::default()
+            }
+        }
     }
 }
 
 // The form held, 0 and 0 where nothing is.
-fn held_numbers(form: Form, answer: OpenAnswer) -> FormNumbers
+fn held_numbers(form: Form, answer: Result<Opened, Refusal>) -> FormNumbers
     ensures { result ≡ held_numbers form answer }
 {
     match answer {
-        OpenAnswer::Opened {
-            rows: _,
-            columns: _,
-            end: _,
-            length: _,
-        } => form_numbers(form),
-        OpenAnswer::NotRead(_) => no_form(),
-        OpenAnswer::NotWritten {
-            rows: _,
-            columns: _,
-            end: _,
-            refusal: _,
-        } => no_form(),
+        Ok(Opened { held: Ok(_), .. }) => form_numbers(form),
+        _ => FormNumbers::default(),
     }
 }
 
@@ -113,8 +92,7 @@ fn held_numbers(form: Form, answer: OpenAnswer) -> FormNumbers
 pub fn open_form_result(opened: FormOpened) -> OpenFormResult
     ensures { result ≡ open_form_result opened }
 {
-    let form = opened.form;
-    let answer = opened.answer;
+    let FormOpened { form, answer } = opened;
     let n = held_numbers(form, answer);
     let o = frame_report::open_result(answer);
     OpenFormResult {

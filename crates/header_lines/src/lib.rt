@@ -1,8 +1,8 @@
 // The lines of a header that are read: found by position, guarded by name.
 #![tactic(auto)]
 
-ghost use Rattle.std.specs.Prelude.{◌≡◌, ◌<◌, drop};
-ghost use Rattle.header_lines.specs.Lines.{index_of, line_of, position_of, starts_with, place_of};
+ghost use Rattle.std.specs.Prelude.{◌≡◌, option_copied};
+ghost use Rattle.header_lines.specs.Lines.{index_of, line_of, position_of, place_of, data_of};
 
 // A line's position, counted from 0, and the eight bytes of its name.
 #[derive(Clone, Copy)]
@@ -94,46 +94,26 @@ pub fn position_of(id: LineId) -> u32
     l.position
 }
 
-// The bytes from `from` on begin with the name.
-fn starts_with(name: [u8; 8], s: &[u8], from: usize) -> bool
-    ensures { result ≡ starts_with name (drop from s.now) }
-{
-    if s.len() < from {
-        return false;
-    }
-    if s.len() - from < 8 {
-        return false;
-    }
-    let mut j: usize = 0;
-    while j < 8 {
-        if name[j] != s[from + j] {
-            return false;
-        }
-        j += 1;
-    }
-    true
-}
-
-// Where a line's data starts, if the line stands in the header.
-#[derive(Clone, Copy)]
-pub enum Place {
-    At(usize),
-    Wrong,
-}
-
 // The line ends within the header and has its name.
-pub fn place_of(header: &[u8], id: LineId) -> Place
+pub fn place_of(header: &[u8], id: LineId) -> Option<usize>
     ensures { result ≡ place_of header.now id }
 {
     let l = line_of(id);
-    let name = l.name;
     let start = l.position as usize * 80;
     if header.len() < start + 80 {
-        return Place::Wrong;
+        return None;
     }
-    if starts_with(name, header, start) {
-        Place::At(start + 8)
+    if header[start..start + 80].starts_with(&l.name) {
+        Some(start + 8)
     } else {
-        Place::Wrong
+        None
     }
+}
+
+// The 72 characters of a line's data, where the line stands in the header.
+pub fn data_of(header: &[u8], id: LineId) -> Option<&[u8]>
+    ensures { option_copied result ≡ data_of header.now id }
+{
+    let start = place_of(header, id)?;
+    Some(&header[start..start + 72])
 }

@@ -1,5 +1,6 @@
 -- What a header says, as plain numbers: the C interface's answer to a question about a header.
-use Rattle.std.specs.Prelude.{ℕ}
+use Rattle.layout.specs.declared.Header.{Header}
+use Rattle.std.specs.Prelude.{ℕ, Err, Ok, Result}
 use Rattle.layout.specs.Form.{width_bytes, entry_bytes}
 use Rattle.layout.specs.declared.Image.{Image}
 use Rattle.layout.specs.declared.BinaryTables.{BinaryTables}
@@ -9,8 +10,6 @@ use Rattle.layout.specs.declared.Tables.{Tables}
 use Rattle.layout.specs.declared.Tables.TheVariants as T
 use Rattle.refusal.specs.declared.Refusal.{Refusal}
 use Rattle.refusal.specs.Codes.{refusal_number, refusal_place}
-use Rattle.header.specs.declared.HeaderAnswer.{HeaderAnswer}
-use Rattle.header.specs.declared.HeaderAnswer.TheVariants as H
 use Rattle.header_report.specs.declared.UnderflowReport.{UnderflowReport}
 use Rattle.header_report.specs.declared.HeaderReport.{HeaderReport}
 
@@ -83,6 +82,6 @@ abbrev pub report_tables : Image → Tables → HeaderReport
 report_tables i (T.Format86 n) = report86 i n
 report_tables i (T.Format100 t) = report100 i t
 
-abbrev pub header_report : HeaderAnswer → HeaderReport
-header_report (H.Accepted h) = report_tables h.image h.tables
-header_report (H.Refused r) = report_refused r
+abbrev pub header_report : Result Header Refusal → HeaderReport
+header_report (Ok h) = report_tables h.image h.tables
+header_report (Err r) = report_refused r

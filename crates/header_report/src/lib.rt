@@ -2,17 +2,15 @@
 #![tactic(auto)]
 
 ghost use Rattle.std.specs.Prelude.{◌≡◌};
-ghost use Rattle.layout.specs.Form.{width_bytes, entry_bytes};
 ghost use Rattle.header.specs.Header.{header_of};
 ghost use Rattle.header_report.specs.Report.{underflow_report, report86, report100, report_refused, report_tables, header_report};
 
-use header::HeaderAnswer;
-use layout::{BinaryTables, EntryWidth, Image, Tables, Underflows, Width};
-use refusal::Refusal;
+use layout::{BinaryTables, Image, Tables, Underflows};
+use refusal::{Code, Refusal};
 
 // refusal is 0 where the header is accepted; a field that does not apply is 0.
 #[repr(C)]
-#[derive(Clone, Copy)]
+#[derive(Clone, Copy, Default)]
 pub struct HeaderReport {
     pub refusal: u32,
     pub place: u32,
@@ -31,7 +29,7 @@ pub struct HeaderReport {
     pub four: u32,
 }
 
-#[derive(Clone, Copy)]
+#[derive(Clone, Copy, Default)]
 pub struct UnderflowReport {
     pub subtracted: u32,
     pub entry: u32,
@@ -39,40 +37,15 @@ pub struct UnderflowReport {
     pub count: u32,
 }
 
-fn width_number(w: Width) -> u32
-    ensures { result ≡ width_bytes w }
-{
-    match w {
-        Width::One => 1,
-        Width::Two => 2,
-        Width::Four => 4,
-    }
-}
-
-fn entry_number(e: EntryWidth) -> u32
-    ensures { result ≡ entry_bytes e }
-{
-    match e {
-        EntryWidth::One => 1,
-        EntryWidth::Two => 2,
-    }
-}
-
 fn underflow_report(u: Underflows) -> UnderflowReport
     ensures { result ≡ underflow_report u }
 {
     match u {
-        Underflows::Unused => UnderflowReport {
-            subtracted: 0,
-            entry: 0,
-            baseline: 0,
-            count: 0,
-        },
+        Underflows::Unused => UnderflowReport::default(),
         Underflows::NoWidth { baseline } => UnderflowReport {
             subtracted: 1,
-            entry: 0,
             baseline,
-            count: 0,
+            ..UnderflowReport::default()
         },
         Underflows::Counted {
             entry,
@@ -80,7 +53,7 @@ fn underflow_report(u: Underflows) -> UnderflowReport
             baseline,
         } => UnderflowReport {
             subtracted: 1,
-            entry: entry_number(entry),
+            entry: layout::entry_bytes(entry) as u32,
             baseline,
             count,
         },
@@ -90,70 +63,45 @@ fn underflow_report(u: Underflows) -> UnderflowReport
 fn report_86(i: Image, entries: u32) -> HeaderReport
     ensures { result ≡ report86 i entries }
 {
-    let width = i.width;
     HeaderReport {
-        refusal: 0,
-        place: 0,
-        column: 0,
         format: 86,
         start: i.start,
         rows: i.rows,
         columns: i.columns,
-        width: width_number(width),
+        width: layout::width_bytes(i.width) as u32,
         entries,
-        subtracted: 0,
-        entry: 0,
-        baseline: 0,
-        underflows: 0,
-        two: 0,
-        four: 0,
+        ..HeaderReport::default()
     }
 }
 
 fn report_100(i: Image, t: BinaryTables) -> HeaderReport
     ensures { result ≡ report100 i t }
 {
-    let width = i.width;
-    let underflows = t.underflows;
-    let u = underflow_report(underflows);
+    let u = underflow_report(t.underflows);
     HeaderReport {
-        refusal: 0,
-        place: 0,
-        column: 0,
         format: 100,
         start: i.start,
         rows: i.rows,
         columns: i.columns,
-        width: width_number(width),
-        entries: 0,
+        width: layout::width_bytes(i.width) as u32,
         subtracted: u.subtracted,
         entry: u.entry,
         baseline: u.baseline,
         underflows: u.count,
         two: t.two,
         four: t.four,
+        ..HeaderReport::default()
     }
 }
 
 fn report_refused(r: Refusal) -> HeaderReport
     ensures { result ≡ report_refused r }
 {
+    let Code { number, place } = Code::from(r);
     HeaderReport {
-        refusal: refusal::number_of(r),
-        place: refusal::place_of(r),
-        column: 0,
-        format: 0,
-        start: 0,
-        rows: 0,
-        columns: 0,
-        width: 0,
-        entries: 0,
-        subtracted: 0,
-        entry: 0,
-        baseline: 0,
-        underflows: 0,
-        two: 0,
-        four: 0,
+        refusal: number,
+        place,
+        ..HeaderReport::default()
     }
 }
 
@@ -171,11 +119,7 @@ pub fn report(bytes: &[u8]) -> HeaderReport
     ensures { result ≡ header_report (header_of bytes.now) }
 {
     match header::read_header(bytes) {
-        HeaderAnswer::Accepted(h) => {
-            let image = h.image;
-            let tables = h.tables;
-            report_tables(image, tables)
-        }
-        HeaderAnswer::Refused(r) => report_refused(r),
+        Ok(h) => report_tables(h.image, h.tables),
+        Err(r) => report_refused(r),
     }
 }

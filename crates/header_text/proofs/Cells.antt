@@ -6,12 +6,11 @@ use mathlib.Core.List.{List, [], ◌∷◌, ◌++◌, append_assoc, append-nil}
 use Prim.Native.Nat.{ℕ, zero, suc, ◌+◌, ◌*◌, ◌-◌, ◌/◌, ◌%◌, ◌≤◌, ◌<◌}
 use native.Mathlib.Numerals.{add-one}
 use native.Mathlib.Omega.{arith}
-use lib.ListN.{length, take, drop, replicate, set, length-append, length-drop, length-replicate, drop_of_length-le}
+use lib.ListN.{length, drop, set, length-append, length-drop, length-replicate, drop_of_length-le}
 use lib.Seq.{drop-cons, drop-drop, set-append_seam, append_snoc, take_at, drop_at}
 use lib.Dec.{ltb}
 use borrow.Author.Tests.{lt-ltb, le-ltb}
 use Rattle.std.specs.Prelude.{if◌then◌else◌}
-use Rattle.lists.specs.Text.{codes}
 use Rattle.lists.specs.Digits.{digits_up_to, decimal}
 use Rattle.layout.specs.declared.Underflow.{Underflow}
 use Rattle.layout.specs.declared.Underflow.TheVariants as U
@@ -69,18 +68,10 @@ digits-room n k r out out₁ z l d =
     let s = digits_le (k - 1) (n / 10) in
     rw (d.1, length-append, length-drop) (omega (arith, d.0))
 
-drop-spaces : (k n : ℕ) → drop k (spaces n) ≡ spaces (n - k)
-drop-spaces zero n = let e : n - 0 ≡ n = omega arith in rw e
-drop-spaces (suc k) zero = let e : 0 - suc k ≡ 0 = omega arith in rw e
-drop-spaces (suc k) (suc n) = let e : suc n - suc k ≡ n - k = omega arith in rw e (drop-spaces k n)
-
-pub cell-is : (n l : ℕ) (out out' : List ℕ) → l ≡ 24 → out ≡ replicate l 32 → out' ≡ decimal n ++ drop (length (decimal n)) out → out' ≡ cell (decimal n)
-unfolding cell
-cell-is n l out out' h e d = d ∙ rw (e, h, drop-spaces (length (decimal n)) 24)
-
-pub minus_is : (l : ℕ) (out : List ℕ) → l ≡ 24 → out ≡ replicate l 32 → set (set out 0 45) 1 49 ≡ cell (codes "-1")
-unfolding cell
-minus_is l out h e = rw (e, h)
+pub drop_spaces : (k n : ℕ) → drop k (spaces n) ≡ spaces (n - k)
+drop_spaces zero n = let e : n - 0 ≡ n = omega arith in rw e
+drop_spaces (suc k) zero = let e : 0 - suc k ≡ 0 = omega arith in rw e
+drop_spaces (suc k) (suc n) = let e : suc n - suc k ≡ n - k = omega arith in rw e (drop_spaces k n)
 
 pub length-cell : (text : List ℕ) → length text ≤ 24 → length (cell text) ≡ 24
 unfolding cell
@@ -109,12 +100,12 @@ counts-data u k out a b c lo ea eb ec =
     three-cells out a b c lo (ap length ea ∙ length-cell (underflow_text u k.under) (text-le u k.under)) (ap length eb ∙ length-cell (decimal k.two) (decimal-le k.two))
     ∙ rw (ea, eb, ec)
 
-pub widths-data : (form : Form) (w u : ℕ) (out a b c : List ℕ) → length out ≡ 72 → w ≡ width_bytes form.width → u ≡ underflow_bytes form.underflow → a ≡ cell (decimal w) → b ≡ cell (decimal u)
-    → c ≡ spaces 24 → put_mid 48 24 (put_mid 24 24 (a ++ drop 24 out) b) c ≡ npixelb_data form
+pub widths-data : (form : Form) (out a b : List ℕ) → out ≡ spaces 72 → a ≡ cell (decimal (width_bytes form.width)) → b ≡ cell (decimal (underflow_bytes form.underflow))
+    → put_mid 24 24 (a ++ drop 24 out) b ≡ npixelb_data form
 unfolding npixelb_data
-widths-data form w u out a b c lo ew eu ea eb ec =
-    three-cells out a b c lo (ap length ea ∙ length-cell (decimal w) (decimal-le w)) (ap length eb ∙ length-cell (decimal u) (decimal-le u))
-    ∙ rw (ea, eb, ec, ew, eu)
+widths-data form out a b eo ea eb =
+    let la : length a ≡ 24 = ap length ea ∙ length-cell (decimal (width_bytes form.width)) (decimal-le (width_bytes form.width)) in
+    rw (eo, take_at a (drop 24 (spaces 72)) 24 la, drop_at a (drop 24 (spaces 72)) 24 la) (λ i. ea i ++ (eb i ++ spaces 24))
 
 -- a line's data put in place
 pub line-put : (id : LineId) (at e : ℕ) (text header ys : List ℕ) → at ≡ position_of id * 80 + 8 → e ≡ at + 72 → ys ≡ text → put_mid at (e - at) header ys ≡ with_data id text header

@@ -2,14 +2,14 @@
 -- Assumes nothing.
 use mathlib.Core.Path.{◌≡◌, refl, sym, ap, ◌∙◌}
 use mathlib.Core.Bool.{Bool, true, false, ◌&&◌}
-use mathlib.Core.List.{List, [], ◌++◌}
-use Prim.Native.Nat.{ℕ, suc, ◌+◌, ◌*◌, ◌-◌, ◌≤◌, ◌<◌}
-use native.Mathlib.Numerals.{add-one}
+use mathlib.Core.List.{List, [], ◌∷◌, ◌++◌}
+use Prim.Native.Nat.{ℕ, ◌+◌, ◌*◌, ◌-◌, ◌≤◌, ◌<◌}
 use native.Mathlib.Omega.{arith}
-use lib.ListN.{length, take, drop, get_or, length-append, length-take, length-drop, take-append-drop, drop_of_length-le}
-use lib.Seq.{drop-cons, drop-drop, take_at, drop_at, take-take, take-append-le, drop-append-le, length-take-le}
+use lib.ListN.{length, take, drop, length-append, length-take, length-drop, take-append-drop}
+use lib.Seq.{drop-drop, take_at, drop_at, take-take, take-append-le, drop-append-le, length-take-le}
 use lib.Dec.{leb, eqb}
-use borrow.Author.Tests.{le-leb, lt-leb, eq-eqb, ne_eqb}
+use borrow.Author.Tests.{le-leb, lt-leb}
+use Rattle.std.specs.Cmp.Lexicographic.{pointwise}
 use Rattle.lists.specs.Bytes.{same_bytes}
 use Rattle.lists.proofs.Same.{same_refl, same-eq}
 use Rattle.lists.proofs.Parts.{drop-take}
@@ -82,33 +82,13 @@ same_lines form c header h e =
     let two : data_of I.Npixelb header ≡ npixelb_data form = ap (data_of I.Npixelb) (sym e) ∙ data-with I.Npixelb (npixelb_data form) x (length-npixelb form) b in
     rw (le-leb 3200 (length header) h, one, two, same_refl (counts_data form.underflow c), same_refl (npixelb_data form))
 
--- Comparing two lists of one length from place i on.
-pub record Comparing (a b : List ℕ) (i : ℕ) : Type 0 where
-  pub reach : i ≤ length a
-  pub left : same_bytes a b ≡ same_bytes (drop i a) (drop i b)
-
-pub compare-first : (a b : List ℕ) → Comparing a b 0
-compare-first a b = record { reach = omega arith; left = refl }
-
-turned : (a b : List ℕ) (i : ℕ) → i < length a → i < length b → same_bytes (drop i a) (drop i b) ≡ (eqb (get_or a i 0) (get_or b i 0) && same_bytes (drop (suc i) a) (drop (suc i) b))
+-- what `==` of two slices of bytes answers
+pub pointwise_same : (a b : List ℕ) → pointwise eqb a b ≡ same_bytes a b
 unfolding same_bytes
-turned a b i p q = rw (drop-cons a i 0 p, drop-cons b i 0 q)
-
-pub compare-turn : {a b : List ℕ} {i : ℕ} → Comparing a b i → length a ≡ length b → i < length a → get_or a i 0 ≡ get_or b i 0 → Comparing a b (i + 1)
-compare-turn {a} {b} {i} k l h e = record {
-  reach = omega arith;
-  left = k.left ∙ turned a b i h (omega arith) ∙ rw (eq-eqb (get_or a i 0) (get_or b i 0) e, add-one);
-}
-
-pub compare-other : {a b : List ℕ} {i : ℕ} → Comparing a b i → length a ≡ length b → i < length a → (get_or a i 0 ≡ get_or b i 0 → ⊥) → false ≡ same_bytes a b
-compare-other {a} {b} {i} k l h e = sym (k.left ∙ turned a b i h (omega arith) ∙ rw (ne_eqb (get_or a i 0) (get_or b i 0) e))
-
-pub compare-last : {a b : List ℕ} {i : ℕ} → Comparing a b i → length a ≡ length b → length a ≤ i → true ≡ same_bytes a b
-unfolding same_bytes
-compare-last {a} {b} {i} k l h =
-    let p : drop i a ≡ [] = drop_of_length-le a {i = i} h in
-    let q : drop i b ≡ [] = drop_of_length-le b {i = i} (omega arith) in
-    sym (k.left ∙ rw (p, q))
+pointwise_same [] [] = refl
+pointwise_same [] (y ∷ b) = refl
+pointwise_same (x ∷ a) [] = refl
+pointwise_same (x ∷ a) (y ∷ b) = rw (pointwise_same a b)
 
 -- Whether the lines are written, from the parts of a header that are compared.
 pub line-judged : (id : LineId) (at e : ℕ) (text header : List ℕ) (r : Bool) → at ≡ position_of id * 80 + 8 → e ≡ at + 72 → r ≡ same_bytes (take (e - at) (drop at header)) text → r ≡ same_bytes (data_of id header) text

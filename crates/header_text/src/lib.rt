@@ -1,15 +1,15 @@
 // The two header lines that a frame's counts and widths stand in: written, and compared with what would be written.
 #![tactic(auto)]
 
-ghost use Rattle.std.specs.Prelude.{◌≡◌, ◌++◌, ◌≤◌, length, drop, leb, if◌then◌else◌};
+ghost use Rattle.std.specs.Prelude.{◌≡◌, ◌+◌, ◌*◌, ◌++◌, ◌≤◌, length, drop, leb, if◌then◌else◌};
 ghost use Rattle.lists.specs.Text.{codes};
 ghost use Rattle.lists.specs.Bytes.{same_bytes};
 ghost use Rattle.lists.specs.Digits.{digits_up_to, decimal};
-ghost use Rattle.layout.specs.Form.{width_bytes};
-ghost use Rattle.header_text.specs.Text.{spaces, cell, underflow_text, counts_data, npixelb_data, relined, lines_written};
+ghost use Rattle.header_lines.specs.Lines.{position_of};
+ghost use Rattle.header_text.specs.Text.{cell, underflow_text, counts_data, npixelb_data, relined, lines_written};
 
 use header_lines::LineId;
-use layout::{Form, Underflow, Width};
+use layout::{Form, Underflow};
 
 // How many pixels underflow, and how many are 255 and 65535 above the baseline.
 #[derive(Clone, Copy)]
@@ -19,7 +19,8 @@ pub struct Counts {
     pub four: u32,
 }
 
-// The last k digits of n at the front of out, with no zeros at the left. The answer: how many.
+// The last k digits of n at the front of out, with no zeros at the left. The answer: how many. By hand, since write! would take a writer
+// over the slice, which is longer than this.
 fn put_digits(n: u32, k: usize, out: &mut [u8]) -> usize
     requires { k ≤ length out.old }
     ensures value { result ≡ length (digits_up_to k n) }
@@ -39,30 +40,26 @@ fn put_digits(n: u32, k: usize, out: &mut [u8]) -> usize
 }
 
 // A number at the left of a cell.
+#[tactic(auto, using(crate::proofs::Cells::drop_spaces), unfolding(crate::specs::Text::cell))]
 fn put_number(n: u32, out: &mut [u8])
     requires { length out.old ≡ 24 }
     ensures { out.new ≡ cell (decimal n) }
 {
-    table::fill(out, 32);
+    out.fill(b' ');
     put_digits(n, 10, out);
 }
 
-fn put_minus_one(out: &mut [u8])
-    requires { length out.old ≡ 24 }
-    ensures { out.new ≡ cell (codes "-1") }
-{
-    table::fill(out, 32);
-    out[0] = 45;
-    out[1] = 49;
-}
-
 // The cell of the underflow count.
+#[tactic(auto, unfolding(crate::specs::Text::cell))]
 fn put_underflow_count(u: Underflow, n: u32, out: &mut [u8])
     requires { length out.old ≡ 24 }
     ensures { out.new ≡ cell (underflow_text u n) }
 {
     match u {
-        Underflow::None => put_minus_one(out),
+        Underflow::None => {
+            out.fill(b' ');
+            out[..2].copy_from_slice(b"-1");
+        }
         Underflow::Subtracted(_) => put_number(n, out),
     }
 }
@@ -77,44 +74,32 @@ fn put_noverfl(u: Underflow, c: Counts, out: &mut [u8])
     put_number(c.four, &mut out[48..72]);
 }
 
-fn pixel_bytes(w: Width) -> u32
-    ensures { result ≡ width_bytes w }
-{
-    match w {
-        Width::One => 1,
-        Width::Two => 2,
-        Width::Four => 4,
-    }
-}
-
-fn put_spaces(out: &mut [u8])
-    requires { length out.old ≡ 24 }
-    ensures { out.new ≡ spaces 24 }
-{
-    table::fill(out, 32);
-}
-
 // The data of NPIXELB: two cells, and spaces in the third.
 fn put_npixelb(form: Form, out: &mut [u8])
     requires { length out.old ≡ 72 }
     ensures { out.new ≡ npixelb_data form }
 {
-    let w = form.width;
-    let u = form.underflow;
-    put_number(pixel_bytes(w), &mut out[0..24]);
-    put_number(layout::underflow_bytes(u), &mut out[24..48]);
-    put_spaces(&mut out[48..72]);
+    out.fill(b' ');
+    put_number(layout::width_bytes(form.width) as u32, &mut out[0..24]);
+    put_number(layout::underflow_bytes(form.underflow), &mut out[24..48]);
+}
+
+// Where a line's data starts.
+fn data_start(id: LineId) -> usize
+    ensures { result ≡ position_of id * 80 + 8 }
+{
+    header_lines::position_of(id) as usize * 80 + 8
 }
 
 // The header's two lines, in place.
+#[tactic(auto, unfolding(header_lines::specs::Lines::line_of))]
 fn put_lines(header: &mut [u8], form: Form, c: Counts)
     requires { 3200 ≤ length header.old }
     ensures { header.new ≡ relined form c header.old }
 {
-    let u = form.underflow;
-    let noverfl = header_lines::position_of(LineId::Noverfl) as usize * 80 + 8;
-    let npixelb = header_lines::position_of(LineId::Npixelb) as usize * 80 + 8;
-    put_noverfl(u, c, &mut header[noverfl..noverfl + 72]);
+    let noverfl = data_start(LineId::Noverfl);
+    let npixelb = data_start(LineId::Npixelb);
+    put_noverfl(form.underflow, c, &mut header[noverfl..noverfl + 72]);
     put_npixelb(form, &mut header[npixelb..npixelb + 72]);
 }
 
@@ -127,52 +112,38 @@ pub fn rewrite(header: &mut [u8], form: Form, c: Counts)
     }
 }
 
-fn same(a: &[u8], b: &[u8]) -> bool
-    requires { length a.now ≡ length b.now }
-    ensures { result ≡ same_bytes a.now b.now }
-{
-    let mut i = 0;
-    while i < a.len() {
-        if a[i] != b[i] {
-            return false;
-        }
-        i += 1;
-    }
-    true
-}
-
 // Whether a line's data is NOVERFL's for these counts.
+#[tactic(auto, using(crate::proofs::Lines::pointwise_same))]
 fn is_noverfl(text: &[u8], u: Underflow, c: Counts) -> bool
     requires { length text.now ≡ 72 }
     ensures { result ≡ same_bytes text.now (counts_data u c) }
 {
-    let mut line = [0u8; 72];
-    put_noverfl(u, c, &mut line);
-    same(text, &line)
+    let mut counts = [0u8; 72];
+    put_noverfl(u, c, &mut counts);
+    text == counts.as_slice()
 }
 
 // Whether a line's data is NPIXELB's for this form.
+#[tactic(auto, using(crate::proofs::Lines::pointwise_same))]
 fn is_npixelb(text: &[u8], form: Form) -> bool
     requires { length text.now ≡ 72 }
     ensures { result ≡ same_bytes text.now (npixelb_data form) }
 {
-    let mut line = [0u8; 72];
-    put_npixelb(form, &mut line);
-    same(text, &line)
+    let mut widths = [0u8; 72];
+    put_npixelb(form, &mut widths);
+    text == widths.as_slice()
 }
 
 // Whether NOVERFL and NPIXELB are there, as `rewrite` writes them for these counts.
+#[tactic(auto, unfolding(crate::specs::Text::lines_written, header_lines::specs::Lines::line_of))]
 pub fn is_rewritten(header: &[u8], form: Form, c: Counts) -> bool
     ensures { result ≡ lines_written form c header.now }
 {
     if header.len() < 3200 {
         return false;
     }
-    let u = form.underflow;
-    let noverfl = header_lines::position_of(LineId::Noverfl) as usize * 80 + 8;
-    if !is_noverfl(&header[noverfl..noverfl + 72], u, c) {
-        return false;
-    }
-    let npixelb = header_lines::position_of(LineId::Npixelb) as usize * 80 + 8;
-    is_npixelb(&header[npixelb..npixelb + 72], form)
+    let noverfl = data_start(LineId::Noverfl);
+    let npixelb = data_start(LineId::Npixelb);
+    is_noverfl(&header[noverfl..noverfl + 72], form.underflow, c)
+        && is_npixelb(&header[npixelb..npixelb + 72], form)
 }

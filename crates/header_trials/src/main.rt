@@ -3,184 +3,119 @@
 // function, and its answer printed behind the row. A row that starts with # is a heading.
 #![tactic(auto)]
 
-ghost use Rattle.std.specs.Prelude.{◌≤◌, length};
+ghost use Rattle.std.specs.Prelude.{◌≤◌};
 
 use console::Output;
-use header::HeaderAnswer;
 use header_lines::LineId;
 use layout::{Header, Tables, Underflows};
-use numeral::Number;
 use std::io;
 use std::io::Write;
 
-// The first place from `at` on that has the byte, or the text's end.
-fn find(text: &[u8], at: usize, byte: u8) -> usize
-    requires { at ≤ length text.now }
-    ensures { (at ≤ result) × (result ≤ length text.now) }
-{
-    let mut i = at;
-    while i < text.len() {
-        if text[i] == byte {
-            return i;
-        }
-        i += 1;
-    }
-    i
-}
+// The lines of the header's table, in their order.
+const LINES: [LineId; 9] = [
+    LineId::Format,
+    LineId::Version,
+    LineId::Hdrblks,
+    LineId::Noverfl,
+    LineId::Npixelb,
+    LineId::Nrows,
+    LineId::Ncols,
+    LineId::Linear,
+    LineId::Nexp,
+];
 
-fn store(buffer: &mut [u8], at: usize, byte: u8) {
-    if at < buffer.len() {
-        buffer[at] = byte;
-    }
-}
-
-// Copies the text into the buffer from a place on, as far as the buffer goes.
-fn put(buffer: &mut [u8], from: usize, text: &[u8])
-    requires { from ≤ 65536 }
-{
-    let mut i = 0;
-    while i < text.len() {
-        store(buffer, from + i, text[i]);
-        i += 1;
+// Copies the bytes into the buffer from a place on, as far as the buffer goes.
+fn put(buffer: &mut [u8], from: usize, bytes: &[u8]) {
+    for (to, byte) in buffer.iter_mut().skip(from).zip(bytes) {
+        *to = *byte;
     }
 }
 
-fn word(stdout: &mut Output, text: &[u8]) -> io::Result<()> {
-    stdout.write_all(text)
+// A line of the header's table with its data. Data that start with ! put that over the colon behind the name.
+fn put_line(buffer: &mut [u8], id: LineId, data: &[u8]) {
+    let l = header_lines::line_of(id);
+    let from = l.position as usize * 80;
+    put(buffer, from, &l.name);
+    let behind = if data.starts_with(b"!") { 7 } else { 8 };
+    put(buffer, from + behind, data);
 }
 
-fn number(stdout: &mut Output, text: &[u8], n: u64) -> io::Result<()> {
-    stdout.write_all(text)?;
-    console::print_decimal(stdout, n)
+// The lines of the header's table, from the cells behind the first; a cell behind the ninth is the last line's again.
+fn put_lines(buffer: &mut [u8], row: &[u8]) {
+    for (k, cell) in row.split_inclusive(|b| *b == b'|').skip(1).enumerate() {
+        let id = LINES.get(k).copied().unwrap_or(LineId::Nexp);
+        put_line(buffer, id, cell.strip_suffix(b"|").unwrap_or(cell));
+    }
 }
 
 fn show_underflows(stdout: &mut Output, u: Underflows) -> io::Result<()> {
     match u {
-        Underflows::Unused => word(stdout, b" underflows -1"),
-        Underflows::NoWidth { baseline } => number(
-            stdout,
-            b" underflows 0 of width 0 baseline ",
-            baseline as u64,
-        ),
+        Underflows::Unused => write!(stdout, " underflows -1"),
+        Underflows::NoWidth { baseline } => {
+            write!(stdout, " underflows 0 of width 0 baseline {baseline}")
+        }
         Underflows::Counted {
             entry,
             count,
             baseline,
         } => {
-            number(stdout, b" underflows ", count as u64)?;
-            number(stdout, b" of width ", layout::entry_bytes(entry) as u64)?;
-            number(stdout, b" baseline ", baseline as u64)
+            let width = layout::entry_bytes(entry);
+            write!(
+                stdout,
+                " underflows {count} of width {width} baseline {baseline}"
+            )
         }
     }
 }
 
 fn show_tables(stdout: &mut Output, tables: Tables) -> io::Result<()> {
     match tables {
-        Tables::Format86 { entries } => number(stdout, b" entries ", entries as u64),
+        Tables::Format86 { entries } => writeln!(stdout, " entries {entries}"),
         Tables::Format100(t) => {
-            let u = t.underflows;
-            show_underflows(stdout, u)?;
-            number(stdout, b" two ", t.two as u64)?;
-            number(stdout, b" four ", t.four as u64)
+            show_underflows(stdout, t.underflows)?;
+            writeln!(stdout, " two {} four {}", t.two, t.four)
         }
     }
 }
 
-fn show_header(stdout: &mut Output, h: Header) -> io::Result<()> {
+fn show(stdout: &mut Output, h: Header) -> io::Result<()> {
     let image = h.image;
-    number(stdout, b" -> accepted, length ", image.start as u64)?;
-    number(stdout, b" rows ", image.rows as u64)?;
-    number(stdout, b" columns ", image.columns as u64)?;
-    let width = image.width;
-    number(stdout, b" width ", layout::width_bytes(width) as u64)?;
-    let tables = h.tables;
-    show_tables(stdout, tables)
-}
-
-fn show(stdout: &mut Output, bytes: &[u8]) -> io::Result<()> {
-    match header::read_header(bytes) {
-        HeaderAnswer::Accepted(h) => show_header(stdout, h)?,
-        HeaderAnswer::Refused(r) => {
-            number(stdout, b" -> refused ", refusal::number_of(r) as u64)?;
-            number(stdout, b" place ", refusal::place_of(r) as u64)?;
-        }
-    }
-    word(stdout, b"\n")
-}
-
-fn line_id(k: usize) -> LineId {
-    match k {
-        0 => LineId::Format,
-        1 => LineId::Version,
-        2 => LineId::Hdrblks,
-        3 => LineId::Noverfl,
-        4 => LineId::Npixelb,
-        5 => LineId::Nrows,
-        6 => LineId::Ncols,
-        7 => LineId::Linear,
-        _ => LineId::Nexp,
-    }
-}
-
-// The line of the table's place k, with a value.
-fn put_line(buffer: &mut [u8], k: usize, value: &[u8]) {
-    let l = header_lines::line_of(line_id(k));
-    let name = l.name;
-    let from = l.position as usize * 80;
-    put(buffer, from, &name);
-    if value.len() == 0 {
-        return;
-    }
-    if value[0] == b'!' {
-        put(buffer, from + 7, value);
-    } else {
-        put(buffer, from + 8, value);
-    }
-}
-
-// The lines that the cells of a row give, each behind its bar.
-fn put_lines(buffer: &mut [u8], cells: &[u8]) {
-    let mut at = 1;
-    let mut k = 0;
-    while at < cells.len() {
-        let end = find(cells, at, b'|');
-        put_line(buffer, k, &cells[at..end]);
-        k += 1;
-        at = end + 1;
-    }
+    write!(stdout, " -> accepted, length {}", image.start)?;
+    write!(stdout, " rows {} columns {}", image.rows, image.columns)?;
+    write!(stdout, " width {}", layout::width_bytes(image.width))?;
+    show_tables(stdout, h.tables)
 }
 
 // How many bytes are given; a row without a number gives none.
-fn given(cell: &[u8]) -> usize
+fn given(row: &[u8]) -> usize
     ensures { result ≤ 32768 }
 {
-    let Number::Value(n) = numeral::number_of(cell) else {
-        return 0;
-    };
-    if n <= 32768 { n as usize } else { 32768 }
+    let first = row.split(|b| *b == b'|').next().unwrap_or(row);
+    (numeral::number_of(first).unwrap_or(0) as usize).min(32768)
 }
 
 fn run(stdout: &mut Output, row: &[u8]) -> io::Result<()> {
-    word(stdout, row)?;
-    let first = find(row, 0, b'|');
+    stdout.write_all(row)?;
     let mut buffer = [b' '; 32768];
-    put_lines(&mut buffer, &row[first..]);
-    let n = given(&row[..first]);
-    show(stdout, &buffer[..n])
+    put_lines(&mut buffer, row);
+    match header::read_header(&buffer[..given(row)]) {
+        Ok(h) => show(stdout, h),
+        Err(r) => {
+            let (number, place) = (refusal::number_of(r), refusal::place_of(r));
+            writeln!(stdout, " -> refused {number} place {place}")
+        }
+    }
 }
 
 fn run_rows(stdout: &mut Output, text: &[u8]) -> io::Result<()> {
-    let mut at = 0;
-    while at < text.len() {
-        let end = find(text, at, b'\n');
-        let row = &text[at..end];
-        if text[at] == b'#' {
-            word(stdout, row)?;
-            word(stdout, b"\n")?;
+    for line in text.split_inclusive(|b| *b == b'\n') {
+        let row = line.strip_suffix(b"\n").unwrap_or(line);
+        if row.starts_with(b"#") {
+            stdout.write_all(row)?;
+            stdout.write_all(b"\n")?;
         } else {
             run(stdout, row)?;
         }
-        at = end + 1;
     }
     Ok(())
 }

@@ -1,5 +1,5 @@
 -- The form of a frame, in bytes.
-use Rattle.std.specs.Prelude.{ℕ, eqb, if◌then◌else◌}
+use Rattle.std.specs.Prelude.{ℕ, eqb, if◌then◌else◌, None, Option, Some}
 use Rattle.layout.specs.declared.Width.{Width}
 use Rattle.layout.specs.declared.Width.TheVariants as W
 use Rattle.layout.specs.declared.EntryWidth.{EntryWidth}
@@ -7,10 +7,6 @@ use Rattle.layout.specs.declared.EntryWidth.TheVariants as E
 use Rattle.layout.specs.declared.Underflow.{Underflow}
 use Rattle.layout.specs.declared.Underflow.TheVariants as U
 use Rattle.layout.specs.declared.Form.{Form}
-use Rattle.layout.specs.declared.WidthAnswer.{WidthAnswer}
-use Rattle.layout.specs.declared.WidthAnswer.TheVariants as WA
-use Rattle.layout.specs.declared.EntryAnswer.{EntryAnswer}
-use Rattle.layout.specs.declared.EntryAnswer.TheVariants as EA
 
 abbrev pub width_bytes : Width → ℕ
 width_bytes W.One = 1
@@ -35,16 +31,16 @@ underflow_bytes U.None = 0
 underflow_bytes (U.Subtracted e) = entry_bytes e
 
 -- a pixel width is 1, 2 or 4
-unfoldable pub width_from : ℕ → WidthAnswer
+unfoldable pub width_from : ℕ → Option Width
 width_from n =
-    if eqb n 1 then WA.Listed W.One else
-    if eqb n 2 then WA.Listed W.Two else
-    if eqb n 4 then WA.Listed W.Four else
-    WA.Unlisted
+    if eqb n 1 then Some W.One else
+    if eqb n 2 then Some W.Two else
+    if eqb n 4 then Some W.Four else
+    None
 
 -- the width of an underflow entry is 1 or 2
-unfoldable pub entry_from : ℕ → EntryAnswer
+unfoldable pub entry_from : ℕ → Option EntryWidth
 entry_from n =
-    if eqb n 1 then EA.Listed E.One else
-    if eqb n 2 then EA.Listed E.Two else
-    EA.Unlisted
+    if eqb n 1 then Some E.One else
+    if eqb n 2 then Some E.Two else
+    None

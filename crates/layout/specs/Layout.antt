@@ -1,4 +1,5 @@
 -- Document 01, "Expanding pixels": where a frame's parts lie. The image starts right after the header and has no padding.
+use Rattle.layout.specs.declared.Frame.{Frame}
 use Rattle.std.specs.Prelude.{ℕ, ◌+◌, ◌*◌}
 use Rattle.lists.specs.Bytes.{padded_to}
 use Rattle.layout.specs.declared.Image.{Image}
@@ -16,6 +17,10 @@ image_bytes i = pixel_count i * width_bytes i.width
 
 abbrev pub image_end : Image → ℕ
 image_end i = i.start + image_bytes i
+
+-- what reading an image answers: its size, and where the frame ends
+abbrev pub frame_read : ℕ → ℕ → ℕ → Frame
+frame_read rows columns end = record { rows = rows; columns = columns; end = end }
 
 -- FORMAT 100: the bytes of a table of n entries of w bytes, padded to a multiple of 16; an empty table takes none
 unfoldable pub table_bytes : ℕ → ℕ → ℕ

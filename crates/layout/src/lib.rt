@@ -20,7 +20,7 @@ pub enum EntryWidth {
     Two,
 }
 
-// Whether the baseline is subtracted, and then the width of an underflow entry.
+// Whether the baseline is subtracted, and then the width of an underflow entry. An enum of its own, since document 01's list of forms has one.
 #[derive(Clone, Copy)]
 pub enum Underflow {
     None,
@@ -78,6 +78,14 @@ pub struct Header {
     pub tables: Tables,
 }
 
+// What reading an image answers: its size, and where the frame ends.
+#[derive(Clone, Copy, Default)]
+pub struct Frame {
+    pub rows: u32,
+    pub columns: u32,
+    pub end: u64,
+}
+
 pub fn width_bytes(w: Width) -> usize
     ensures { result ≡ width_bytes w }
 {
@@ -116,38 +124,28 @@ pub fn underflow_bytes(u: Underflow) -> u32
     }
 }
 
-#[derive(Clone, Copy)]
-pub enum WidthAnswer {
-    Listed(Width),
-    Unlisted,
-}
-
-// The pixel width of a number of bytes.
-pub fn width_from(bytes: u32) -> WidthAnswer
+// The pixel width of a number of bytes. An Option, as below: the error type of a TryFrom would say no more.
+#[tactic(auto, unfolding(crate::specs::Form::width_from))]
+pub fn width_from(bytes: u32) -> Option<Width>
     ensures { result ≡ width_from bytes }
 {
     match bytes {
-        1 => WidthAnswer::Listed(Width::One),
-        2 => WidthAnswer::Listed(Width::Two),
-        4 => WidthAnswer::Listed(Width::Four),
-        _ => WidthAnswer::Unlisted,
+        1 => Some(Width::One),
+        2 => Some(Width::Two),
+        4 => Some(Width::Four),
+        _ => None,
     }
 }
 
-#[derive(Clone, Copy)]
-pub enum EntryAnswer {
-    Listed(EntryWidth),
-    Unlisted,
-}
-
 // The underflow width of a number of bytes.
-pub fn entry_from(bytes: u32) -> EntryAnswer
+#[tactic(auto, unfolding(crate::specs::Form::entry_from))]
+pub fn entry_from(bytes: u32) -> Option<EntryWidth>
     ensures { result ≡ entry_from bytes }
 {
     match bytes {
-        1 => EntryAnswer::Listed(EntryWidth::One),
-        2 => EntryAnswer::Listed(EntryWidth::Two),
-        _ => EntryAnswer::Unlisted,
+        1 => Some(EntryWidth::One),
+        2 => Some(EntryWidth::Two),
+        _ => None,
     }
 }
 

@@ -1,5 +1,7 @@
 -- A line appended: what the lines are then, whether the ledger is malformed, and which line stands last.
 -- Assumes nothing.
+use Rattle.ledger.specs.Standing.{line_found}
+use Rattle.ledger.specs.declared.Found.{Found}
 use mathlib.Core.Path.{◌≡◌, refl, sym, ap, ◌∙◌}
 use mathlib.Core.Bool.{Bool, true, false, ◌&&◌, ◌||◌, or_assoc, or-false}
 use mathlib.Core.List.{List, [], ◌∷◌, ◌++◌, append_assoc, append-nil}
@@ -10,15 +12,12 @@ use lib.ListN.{length, take, drop, length-append, length-drop}
 use lib.Seq.{drop-drop, take-add, take_at, drop_at, length-take-le, drop-nil}
 use lib.Dec.{eqb, ltb}
 use borrow.Author.Tests.{lt-ltb, le-ltb}
-use Rattle.std.specs.Prelude.{if◌then◌else◌}
+use Rattle.std.specs.Prelude.{if◌then◌else◌, Ok, None, Option, Some}
 use Rattle.lists.specs.Bytes.{big}
 use Rattle.lists.proofs.BigEndian.{length-big_bytes}
 use Rattle.ledger.specs.declared.Line.{Line}
-use Rattle.ledger.specs.declared.Found.{Found}
-use Rattle.ledger.specs.declared.Found.TheVariants.{At, Nothing}
-use Rattle.ledger.specs.declared.LedgerAnswer.TheVariants as L
 use Rattle.ledger.specs.Lines.{fields_of, line_of, line_number, line_bytes, lines_of, some_malformed, is_malformed}
-use Rattle.ledger.specs.Standing.{withdraws, standing, overdrawn, or_else, last_standing, cancelled}
+use Rattle.ledger.specs.Standing.{withdraws, standing, overdrawn, or_else, last_standing}
 use Rattle.ledger.specs.Ledger.{capacity, ledger_malformed, ledger_full, with_line, append_answer, append_bytes}
 use Rattle.ledger.proofs.StandingLaws.{stack, depth, cancelled-is, stack-split, length-standing}
 use Rattle.ledger.proofs.Scanning.{malformed-tests, some-split}
@@ -69,7 +68,7 @@ overdrawn-more earlier (x ∷ ls) l =
     rw (overdrawn-more (earlier ++ x ∷ []) ls l, e) (sym (or_assoc (withdraws x && eqb (length (standing earlier)) 0) (overdrawn (earlier ++ x ∷ []) ls) _))
 
 -- a line appended where there is room
-pub appended-answer : (t : List ℕ) (lines : ℕ) → ledger_full t lines ≡ false → append_answer t lines ≡ L.Accepted (lines + 1)
+pub appended-answer : (t : List ℕ) (lines : ℕ) → ledger_full t lines ≡ false → append_answer t lines ≡ Ok (lines + 1)
 unfolding append_answer
 appended-answer t lines h = rw h
 
@@ -136,9 +135,9 @@ module _ (t : List ℕ) (n : ℕ) (l : Line) (room : n < capacity t) where
 
 -- the last line that stands is the uppermost of the pile
 
-abbrev pub found_lines : Found → List Line
-found_lines (At index line) = line ∷ []
-found_lines Nothing = []
+abbrev pub found_lines : Option Found → List Line
+found_lines (Some fd) = fd.line ∷ []
+found_lines None = []
 
 -- the first that passes the test
 abbrev pub first_where : (Line → Bool) → List Line → List Line
@@ -162,16 +161,16 @@ module _ (test : Line → Bool) where
       go true q ih = let z : ◌≡◌ {A = ℕ} 0 1 = let w : [] ≡ s ∷ [] = rw q at e in cc in absurd (omega arith)
       go false q ih = rw q (ih (rw q at e))
 
-  top : (i : ℕ) (l : Line) (f : Found) (st : List Line) → found_lines f ≡ first_where test st
-      → found_lines (if◌then◌else◌ (test l) (or_else f (At i l)) f) ≡ first_where test (st ++ l ∷ [])
-  top i l (At j x) st e = go (test l) ∙ sym (first_some st (l ∷ []) x e)
+  top : (i : ℕ) (l : Line) (f : Option Found) (st : List Line) → found_lines f ≡ first_where test st
+      → found_lines (if◌then◌else◌ (test l) (or_else f (Some (line_found i l))) f) ≡ first_where test (st ++ l ∷ [])
+  top i l (Some fd) st e = go (test l) ∙ sym (first_some st (l ∷ []) fd.line e)
     where
-      go : (b : Bool) → found_lines (if◌then◌else◌ b (At j x) (At j x)) ≡ x ∷ []
+      go : (b : Bool) → found_lines (if◌then◌else◌ b (Some (line_found fd.index fd.line)) (Some (line_found fd.index fd.line))) ≡ fd.line ∷ []
       go true = refl
       go false = refl
-  top i l Nothing st e = go (test l) refl ∙ sym (first-none st (l ∷ []) e)
+  top i l None st e = go (test l) refl ∙ sym (first-none st (l ∷ []) e)
     where
-      go : (b : Bool) → test l ≡ b → found_lines (if◌then◌else◌ (test l) (At i l) Nothing) ≡ first_where test (l ∷ [])
+      go : (b : Bool) → test l ≡ b → found_lines (if◌then◌else◌ (test l) (Some (line_found i l)) None) ≡ first_where test (l ∷ [])
       go true q = rw q
       go false q = rw q
 

@@ -1,183 +1,139 @@
--- Lines in bytes: a line in two words, and packing and unpacking are inverse.
+-- Lines in bytes, and a line's number.
 -- Assumes nothing.
-use mathlib.Core.Path.{◌≡◌, sym, ap, ◌∙◌}
-use mathlib.Core.Bool.{Bool, true, false}
-use mathlib.Core.List.{List, ◌++◌, append_assoc}
-use Prim.Native.Nat.{ℕ, ◌+◌, ◌*◌, ◌/◌, ◌%◌, ◌^◌, ◌≤◌, ◌<◌}
-use native.Mathlib.Nat.{div-div-eq-div-mul}
+use mathlib.Core.Path.{◌≡◌, refl, sym, ap, ◌∙◌}
+use mathlib.Core.Bool.{Bool, true, false, ◌&&◌}
+use mathlib.Core.List.{List, [], ◌∷◌, ◌++◌}
+use Prim.Native.Nat.{ℕ, zero, suc, ◌+◌, ◌-◌, ◌*◌, ◌/◌, ◌%◌, ◌^◌, ◌≤◌, ◌<◌}
+use native.Mathlib.Nat.{div-div-eq-div-mul, pow-suc, zero-add, mul_assoc, mul_comm, add-mul}
 use native.Mathlib.Omega.{arith}
-use lib.ListN.{length, take, drop, length-take, length-drop, length-append}
-use lib.Seq.{length-take-le, take_all, take-add, take-take, drop-drop, take_at, drop_at}
+use lib.ListN.{length, take, drop, get_or, length-take, length-drop}
+use lib.Seq.{length-take-le, take_all, take-suc, drop-drop, get_or-take}
 use lib.Dec.{eqb, ltb}
-use borrow.Author.Tests.{eq-eqb, ne_eqb, lt-ltb}
-use Rattle.std.specs.Prelude.{if◌then◌else◌}
-use Rattle.lists.specs.Bytes.{big, big_bytes}
-use Rattle.lists.proofs.BigEndian.{big-append, big-from, bytes-join, length-big_bytes}
-use Rattle.ledger.specs.declared.Kind.{Kind}
-use Rattle.ledger.specs.declared.Kind.TheVariants.{Correction, Keep, Withdrawal}
+use borrow.Author.Tests.{eq-eqb, ne_eqb}
+use Rattle.std.specs.Prelude.{if◌then◌else◌, None, Some}
+use Rattle.std.specs.Bool.{then_some}
+use Rattle.std.specs.Simd.{first_chunks}
+use Rattle.std.specs.Int.{w128, from_be_bytes, to_be_bytes, sum_through, byte_worth, byte_at, bytes_high_first}
+use Rattle.std.specs.List.{slice_index, slice_range}
+use Rattle.lists.specs.Bytes.{big_from, big, big_bytes}
+use Rattle.lists.proofs.BigEndian.{big-append}
 use Rattle.ledger.specs.declared.Line.{Line}
-use Rattle.ledger.specs.declared.LineAnswer.TheVariants.{WellFormed, Malformed}
-use Rattle.ledger.specs.Lines.{kind_number, kind_from, right_for, fields_of, line_from, line_of, line_number, bytes_at}
+use Rattle.ledger.specs.Lines.{kind_from, right_for, is_line, fields_of, line_from, line_of, line_bytes, bytes_at}
 use Rattle.ledger.specs.Ledger.{with_line}
+use borrow.Rule.Slice.PartMut.{put_mid}
 
--- the bits of a number of two words that lie in the upper word
-upper : (hi lo a : ℕ) → lo < 2 ^ 64 → (hi * 2 ^ 64 + lo) / (2 ^ 64 * a) ≡ hi / a
-upper hi lo a l =
-    let e : (hi * 2 ^ 64 + lo) / 2 ^ 64 ≡ hi = omega arith in
-    sym (div-div-eq-div-mul (hi * 2 ^ 64 + lo) (2 ^ 64) a) ∙ ap (λ (n : ℕ). n / a) e
+-- a number in its 16 bytes, as std has it
 
--- those that lie in both, and those in the lower word
-between : (hi lo : ℕ) → lo < 2 ^ 64 → hi % 2 ^ 17 * 2 ^ 15 + lo / 2 ^ 49 ≡ (hi * 2 ^ 64 + lo) / 2 ^ 49 % 2 ^ 32
-between hi lo l = omega arith
+worth : (k b : ℕ) → byte_worth k b ≡ b * 256 ^ k
+worth zero b = omega arith
+worth (suc k) b = refl
 
-lower : (hi lo : ℕ) → lo / 2 ^ 17 % 2 ^ 32 ≡ (hi * 2 ^ 64 + lo) / 2 ^ 17 % 2 ^ 32
-lower hi lo = omega arith
+big-next : (t : List ℕ) (j : ℕ) → j < length t → big (take (suc j) t) ≡ big (take j t) * 256 + get_or t j 0
+unfolding big_from
+big-next t j h = rw (take-suc t j 0 h) (big-append 0 (take j t) (get_or t j 0 ∷ []))
 
-pub spare : (hi lo : ℕ) → (hi * 2 ^ 64 + lo) % 2 ^ 17 ≡ lo % 2 ^ 17
-spare hi lo = omega arith
+highest-first : (n : ℕ) (t : List ℕ) (j : ℕ) → j ≤ n → j < length t
+    → sum_through (λ (i : ℕ). byte_worth (n - i) (slice_index t i)) j ≡ big (take (suc j) t) * 256 ^ (n - j)
+unfolding big_from
+highest-first n t zero h l = rw (worth (n - 0) (get_or t 0 0), big-next t 0 l, zero-add)
+highest-first n t (suc j) h l =
+    let p : ℕ = 256 ^ (n - suc j) in
+    let v : ℕ = big (take (suc j) t) in
+    let e : n - j ≡ suc (n - suc j) = omega arith in
+    let q : 256 ^ (n - j) ≡ p * 256 = ap (λ (k : ℕ). 256 ^ k) e ∙ pow-suc 256 (n - suc j) in
+    let k : v * 256 * p ≡ v * (p * 256) = mul_assoc v 256 p ∙ ap (λ (x : ℕ). v * x) (mul_comm 256 p) in
+    rw (highest-first n t j (omega arith) (omega arith), worth (n - suc j) (get_or t (suc j) 0), big-next t (suc j) l, q, add-mul (v * 256) (get_or t (suc j) 0) p, k)
 
-pub kind-bits : (hi lo : ℕ) → lo < 2 ^ 64 → (hi * 2 ^ 64 + lo) / 2 ^ 126 ≡ hi / 2 ^ 62
-kind-bits hi lo l = upper hi lo (2 ^ 62) l
+pub number-read : (t : List ℕ) → length t ≡ 16 → from_be_bytes w128 t ≡ big t
+number-read t e =
+    let one : big (take 16 t) * 1 ≡ big (take 16 t) = omega arith in
+    highest-first 15 t 15 (omega arith) (omega arith) ∙ one ∙ ap big (take_all 16 t (omega arith))
 
--- the fields of two words
-abbrev pub words_line : ℕ → ℕ → Line
-words_line hi lo = record {
-  kind = kind_from (hi / 2 ^ 62);
-  date = record { year = hi / 2 ^ 50 % 2 ^ 12; month = hi / 2 ^ 46 % 2 ^ 4; day = hi / 2 ^ 41 % 2 ^ 5 };
-  pixel = hi / 2 ^ 17 % 2 ^ 24;
-  old = hi % 2 ^ 17 * 2 ^ 15 + lo / 2 ^ 49;
-  new = lo / 2 ^ 17 % 2 ^ 32;
-}
+byte-over : (k n : ℕ) → byte_at k (n / 256) ≡ byte_at (suc k) n
+byte-over zero n = refl
+byte-over (suc k) n =
+    let e : 256 * 256 ^ suc k ≡ 256 ^ suc (suc k) = mul_comm 256 (256 ^ suc k) ∙ sym (pow-suc 256 (suc k)) in
+    ap (λ (m : ℕ). m % 256) (div-div-eq-div-mul n 256 (256 ^ suc k) ∙ ap (λ (m : ℕ). n / m) e)
 
-pub fields-words : (hi lo : ℕ) → lo < 2 ^ 64 → words_line hi lo ≡ fields_of (hi * 2 ^ 64 + lo)
-unfolding fields_of
-fields-words hi lo l =
-    let n : ℕ = hi * 2 ^ 64 + lo in
-    let k : n / 2 ^ 126 ≡ hi / 2 ^ 62 = upper hi lo (2 ^ 62) l in
-    let y : n / 2 ^ 114 ≡ hi / 2 ^ 50 = upper hi lo (2 ^ 50) l in
-    let m : n / 2 ^ 110 ≡ hi / 2 ^ 46 = upper hi lo (2 ^ 46) l in
-    let d : n / 2 ^ 105 ≡ hi / 2 ^ 41 = upper hi lo (2 ^ 41) l in
-    let p : n / 2 ^ 81 ≡ hi / 2 ^ 17 = upper hi lo (2 ^ 17) l in
-    rw (k, y, m, d, p, between hi lo l, lower hi lo)
+highest-more : (k n : ℕ) → byte_at k n ∷ big_bytes k n ≡ big_bytes (suc k) n
+unfolding big_bytes
+highest-more zero n = refl
+highest-more (suc k) n =
+    ap (λ (bs : List ℕ). bs ++ (n % 256 ∷ [])) (ap (λ (b : ℕ). b ∷ big_bytes k (n / 256)) (sym (byte-over k n)) ∙ highest-more k (n / 256))
 
--- the old count fits its 32 bits
-pub old-fits : (hi lo : ℕ) → lo < 2 ^ 64 → hi % 2 ^ 17 * 2 ^ 15 + lo / 2 ^ 49 < 2 ^ 32
-old-fits hi lo l = omega arith
+highest-bytes : (k n : ℕ) → bytes_high_first k n ≡ big_bytes k n
+unfolding big_bytes
+highest-bytes zero n = refl
+highest-bytes (suc k) n = ap (λ (bs : List ℕ). byte_at k n ∷ bs) (highest-bytes k n) ∙ highest-more k n
 
--- a number in its two halves
-pub big-halves : (w : ℕ) (t : List ℕ) (at : ℕ) → at + (w + w) ≤ length t → big (take (w + w) (drop at t)) ≡ big (take w (drop at t)) * 256 ^ w + big (take w (drop (at + w) t))
-big-halves w t at h =
-    let e : length (take w (drop (at + w) t)) ≡ w = length-take-le w (drop (at + w) t) (rw length-drop (omega arith)) in
-    rw (take-add w w (drop at t), drop-drop w at t)
-    (big-append 0 (take w (drop at t)) (take w (drop (at + w) t)) ∙ big-from (big (take w (drop at t))) (take w (drop (at + w) t)) ∙ rw e)
+pub number-bytes : (n : ℕ) → to_be_bytes w128 n ≡ big_bytes 16 n
+number-bytes n = highest-bytes 16 n
+
+-- the bytes of a line among those of all
+
+pub chunk-is : (k i : ℕ) (t : List ℕ) → i < k → get_or (first_chunks 16 k t) i [] ≡ bytes_at t i
+chunk-is zero i t h = absurd (omega arith)
+chunk-is (suc k) zero t h = refl
+chunk-is (suc k) (suc i) t h =
+    let e : 16 + i * 16 ≡ suc i * 16 = omega arith in
+    chunk-is k i (drop 16 t) (omega arith) ∙ ap (take 16) (drop-drop (i * 16) 16 t ∙ ap (λ (n : ℕ). drop n t) e)
 
 module _ (t : List ℕ) (index : ℕ) where
-  pub line-whole : index < length t / 16
-      → line_of (bytes_at t index) ≡ line_from (big (take 8 (drop (index * 16) t)) * 2 ^ 64 + big (take 8 (drop (index * 16 + 8) t)))
-  unfolding line_of
-  line-whole h =
-      let l : length (bytes_at t index) ≡ 16 = length-take-le 16 (drop (index * 16) t) (rw length-drop (omega arith)) in
-      rw (eq-eqb _ 16 l, big-halves 8 t (index * 16) (omega arith))
+  pub length-line-bytes : index < length t / 16 → length (bytes_at t index) ≡ 16
+  length-line-bytes h = length-take-le 16 (drop (index * 16) t) (rw length-drop (omega arith))
 
-  pub line-short : length t / 16 ≤ index → line_of (bytes_at t index) ≡ Malformed
+  pub line-whole : index < length t / 16 → line_of (bytes_at t index) ≡ line_from (big (bytes_at t index))
+  unfolding line_of
+  line-whole h = rw (eq-eqb _ 16 (length-line-bytes h))
+
+  pub line-short : length t / 16 ≤ index → line_of (bytes_at t index) ≡ None
   unfolding line_of
   line-short h =
       let l : length (bytes_at t index) ≡ 16 → ⊥ = λ e. omega (arith, length-take 16 (drop (index * 16) t), length-drop (index * 16) t) in
       rw (ne_eqb (length (bytes_at t index)) 16 l)
 
--- a line's number as two words
+-- a line among the first n, from the number in its bytes
+pub held-line : (t : List ℕ) (n j m : ℕ) (chunks held : List (List ℕ)) → chunks ≡ first_chunks 16 (length t / 16) t → held ≡ slice_range chunks 0 n
+    → n ≤ length t / 16 → j < n → m ≡ from_be_bytes w128 (get_or held j []) → line_of (bytes_at t j) ≡ line_from m
+held-line t n j m chunks held c h l k e =
+    let z : n - 0 ≡ n = omega arith in
+    let b : get_or held j [] ≡ bytes_at t j = rw (h, z, get_or-take n chunks j [] k, c) (chunk-is (length t / 16) j t (omega arith)) in
+    line-whole t j (omega arith) ∙ ap line_from (sym (e ∙ rw b (number-read (bytes_at t j) (length-line-bytes t j (omega arith)))))
 
-pub kind-small : (k : Kind) → kind_number k ≤ 2
-kind-small Correction = omega arith
-kind-small Keep = omega arith
-kind-small Withdrawal = omega arith
-
-words : (k y m d p o w : ℕ) → o < 2 ^ 32 → w < 2 ^ 32
-    → k * 2 ^ 126 + y * 2 ^ 114 + m * 2 ^ 110 + d * 2 ^ 105 + p * 2 ^ 81 + o % 2 ^ 32 * 2 ^ 49 + w % 2 ^ 32 * 2 ^ 17
-    ≡ (k * 2 ^ 62 + y * 2 ^ 50 + m * 2 ^ 46 + d * 2 ^ 41 + p * 2 ^ 17 + o / 2 ^ 15) * 2 ^ 64 + (o % 2 ^ 15 * 2 ^ 49 + w * 2 ^ 17)
-words k y m d p o w h l = omega arith
-
-abbrev pub high_word : Line → ℕ
-high_word l =
-    kind_number l.kind * 2 ^ 62 + l.date.year % 2 ^ 12 * 2 ^ 50 + l.date.month % 2 ^ 4 * 2 ^ 46 + l.date.day % 2 ^ 5 * 2 ^ 41
-    + l.pixel % 2 ^ 24 * 2 ^ 17 + l.old / 2 ^ 15
-
-abbrev pub low_word : Line → ℕ
-low_word l = l.old % 2 ^ 15 * 2 ^ 49 + l.new * 2 ^ 17
-
-pub line-words : (l : Line) → l.old < 2 ^ 32 → l.new < 2 ^ 32 → line_number l ≡ high_word l * 2 ^ 64 + low_word l
-unfolding line_number
-line-words l o w = words _ _ _ _ _ _ _ o w
-
-pub low_fits : (o w : ℕ) → w < 2 ^ 32 → o % 2 ^ 15 * 2 ^ 49 + w * 2 ^ 17 < 2 ^ 64
-low_fits o w l = omega arith
-
-split : (hi lo : ℕ) → lo < 2 ^ 64 → ((hi * 2 ^ 64 + lo) / 2 ^ 64 ≡ hi) × ((hi * 2 ^ 64 + lo) % 2 ^ 64 ≡ lo)
-split hi lo h = (omega arith, omega arith)
-
-pub high_is : (l : Line) → l.old < 2 ^ 32 → l.new < 2 ^ 32 → high_word l ≡ line_number l / 2 ^ 64
-high_is l o w = rw (line-words l o w) (sym (split (high_word l) (low_word l) (low_fits l.old l.new w)).0)
-
-pub low-is : (l : Line) → l.old < 2 ^ 32 → l.new < 2 ^ 32 → low_word l ≡ line_number l % 2 ^ 64
-low-is l o w = rw (line-words l o w) (sym (split (high_word l) (low_word l) (low_fits l.old l.new w)).1)
-
--- a store after a store
-two-puts : (t bs cs : List ℕ) (at : ℕ) → at + 8 ≤ length t → length bs ≡ 8
-    → take (at + 8) (take at t ++ (bs ++ drop (at + 8) t)) ++ (cs ++ drop (at + 8 + 8) (take at t ++ (bs ++ drop (at + 8) t)))
-    ≡ take at t ++ (bs ++ (cs ++ drop (at + 16) t))
-two-puts t bs cs at h l =
-    let n : length (take at t ++ bs) ≡ at + 8 = rw (length-append, length-take-le at t (omega arith), l) in
-    let e : at + 8 + 8 ≡ at + 16 = omega arith in
-    rw (← append_assoc (take at t) bs (drop (at + 8) t), take_at (take at t ++ bs) (drop (at + 8) t) (at + 8) n, ← drop-drop 8 (at + 8), drop_at (take at t ++ bs) (drop (at + 8) t) (at + 8) n, drop-drop 8 (at + 8), e, append_assoc)
-
-bytes-words : (n : ℕ) → big_bytes 16 n ≡ big_bytes 8 (n / 2 ^ 64) ++ big_bytes 8 (n % 2 ^ 64)
-bytes-words n =
-    let e : n ≡ n / 2 ^ 64 * 2 ^ 64 + n % 2 ^ 64 = omega arith in
-    ap (big_bytes 16) e ∙ bytes-join 8 8 (n / 2 ^ 64) (n % 2 ^ 64) (omega arith)
-
--- two words written one after the other
-pub line-put : (t : List ℕ) (index : ℕ) (l : Line) → index * 16 + 16 ≤ length t
-    → (let u = take (index * 16) t ++ (big_bytes 8 (line_number l / 2 ^ 64) ++ drop (index * 16 + 8) t) in
-    take (index * 16 + 8) u ++ (big_bytes 8 (line_number l % 2 ^ 64) ++ drop (index * 16 + 8 + 8) u) ≡ with_line t index l)
+-- a line written among the bytes of all
+pub line-put : (t bs : List ℕ) (index : ℕ) (l : Line) → bs ≡ line_bytes l → put_mid (index * 16) (index * 16 + 16 - index * 16) t bs ≡ with_line t index l
 unfolding with_line
-line-put t index l h =
-    rw (bytes-words (line_number l), append_assoc)
-    (two-puts t (big_bytes 8 (line_number l / 2 ^ 64)) (big_bytes 8 (line_number l % 2 ^ 64)) (index * 16) (omega arith) (length-big_bytes 8 _))
+line-put t bs index l e =
+    let n : index * 16 + 16 - index * 16 ≡ 16 = omega arith in
+    rw (e, n, drop-drop 16 (index * 16) t)
 
 -- whether a number of a listed kind, with no spare bit, is a line
 module _ (n : ℕ) (l : Line) (e : l ≡ fields_of n) (k : ltb (n / 2 ^ 126) 3 ≡ true) (s : eqb (n % 2 ^ 17) 0 ≡ true) where
-  chosen : (t : Bool) → right_for (fields_of n).kind (fields_of n) ≡ t → line_from n ≡ if◌then◌else◌ t (WellFormed (fields_of n)) Malformed
+  chosen : (t : Bool) → right_for (fields_of n).kind (fields_of n) ≡ t → line_from n ≡ if◌then◌else◌ t (Some (fields_of n)) None
   unfolding line_from
   chosen t h = rw (k, s, h)
 
-  pub line-right : right_for l.kind l ≡ true → WellFormed l ≡ line_from n
-  line-right h = ap WellFormed e ∙ sym (chosen true (rw e at h))
+  pub line-right : right_for l.kind l ≡ true → Some l ≡ line_from n
+  line-right h = ap Some e ∙ sym (chosen true (rw e at h))
 
-  pub line-wrong : right_for l.kind l ≡ false → Malformed ≡ line_from n
+  pub line-wrong : right_for l.kind l ≡ false → None ≡ line_from n
   line-wrong h = sym (chosen false (rw e at h))
 
--- two words that are a correction, and those that are a withdrawal: nothing else is in their upper bits
-module _ (hi lo : ℕ) (low : lo < 2 ^ 64) (l : Line) (e : l ≡ fields_of (hi * 2 ^ 64 + lo)) where
-  words_right : lo % 2 ^ 17 ≡ 0 → hi / 2 ^ 62 < 3 → right_for (words_line hi lo).kind (words_line hi lo) ≡ true → WellFormed l ≡ line_from (hi * 2 ^ 64 + lo)
-  words_right z k r =
-      line-right (hi * 2 ^ 64 + lo) l e (rw (kind-bits hi lo low) (lt-ltb _ _ k)) (rw (spare hi lo) (eq-eqb _ 0 z))
-      (rw (e, ← fields-words hi lo low) r)
+-- a number with nothing above a correction's bits, and that of a withdrawal
+module _ (n : ℕ) (l : Line) (e : l ≡ fields_of n) where
+  pub correction-number : n < 2 ^ 105 → then_some (eqb (n % 2 ^ 17) 0) l ≡ line_from n
+  unfolding line_from is_line fields_of right_for kind_from
+  correction-number h =
+      let k : n / 2 ^ 126 ≡ 0 = omega arith in
+      let y : n / 2 ^ 114 ≡ 0 = omega arith in
+      let m : n / 2 ^ 110 ≡ 0 = omega arith in
+      let d : n / 2 ^ 105 ≡ 0 = omega arith in
+      rw (e, k, y, m, d) (go (eqb (n % 2 ^ 17) 0) _)
+    where
+      go : (b : Bool) (x : Line) → then_some b x ≡ if◌then◌else◌ (b && true) (Some x) None
+      go true x = refl
+      go false x = refl
 
-  pub correction-words : hi < 2 ^ 41 → lo % 2 ^ 17 ≡ 0 → WellFormed l ≡ line_from (hi * 2 ^ 64 + lo)
-  unfolding right_for kind_from
-  correction-words h z =
-      let k : hi / 2 ^ 62 ≡ 0 = omega arith in
-      let y : hi / 2 ^ 50 % 2 ^ 12 ≡ 0 = omega arith in
-      let m : hi / 2 ^ 46 % 2 ^ 4 ≡ 0 = omega arith in
-      let d : hi / 2 ^ 41 % 2 ^ 5 ≡ 0 = omega arith in
-      words_right z (omega arith) (rw (k, y, m, d))
-
-  pub withdrawal-words : hi ≡ 2 ^ 63 → lo ≡ 0 → WellFormed l ≡ line_from (hi * 2 ^ 64 + lo)
-  unfolding right_for kind_from
-  withdrawal-words h z = words_right (rw z) (rw h (omega arith)) (rw (h, z))
-
-pub spare-words : (hi lo : ℕ) → hi < 2 ^ 41 → (lo % 2 ^ 17 ≡ 0 → ⊥) → lo < 2 ^ 64 → Malformed ≡ line_from (hi * 2 ^ 64 + lo)
-unfolding line_from
-spare-words hi lo h z low =
-    let k : hi / 2 ^ 62 ≡ 0 = omega arith in
-    rw (kind-bits hi lo low, k, spare hi lo, ne_eqb _ 0 z)
+  pub withdrawal-number : n ≡ 2 ^ 127 → Some l ≡ line_from n
+  unfolding line_from is_line fields_of right_for kind_from
+  withdrawal-number h = rw (e, h)

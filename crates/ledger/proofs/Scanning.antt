@@ -1,5 +1,7 @@
 -- The survey of a ledger from its last line to its first.
 -- Assumes nothing.
+use Rattle.ledger.specs.Standing.{line_found}
+use Rattle.ledger.specs.declared.Found.{Found}
 use mathlib.Core.Path.{◌≡◌, refl, sym, ap, ◌∙◌}
 use mathlib.Core.Bool.{Bool, true, false, ◌&&◌, ◌||◌, or-true, or_assoc}
 use mathlib.Core.List.{List, [], ◌∷◌}
@@ -10,40 +12,36 @@ use native.Mathlib.Omega.{arith}
 use lib.ListN.{length, take, drop}
 use lib.Seq.{drop-drop}
 use lib.Dec.{eqb, ltb}
-use borrow.Author.Tests.{lt-ltb, le-ltb, ltb-false, ne_eqb}
-use Rattle.std.specs.Prelude.{if◌then◌else◌}
+use borrow.Author.Tests.{lt-ltb, le-ltb, ltb-false}
+use Rattle.std.specs.Prelude.{if◌then◌else◌, None, Option, Some, Result, Err}
+use Rattle.std.specs.Option.{option_or, ok_or}
 use Rattle.lists.specs.Bytes.{big}
 use Rattle.ledger.specs.declared.Line.{Line}
-use Rattle.ledger.specs.declared.LineAnswer.{LineAnswer}
-use Rattle.ledger.specs.declared.LineAnswer.TheVariants.{WellFormed, Malformed}
-use Rattle.ledger.specs.declared.Found.{Found}
-use Rattle.ledger.specs.declared.Found.TheVariants.{At, Nothing}
 use Rattle.ledger.specs.declared.Sought.{Sought}
 use Rattle.ledger.specs.declared.Sought.TheVariants as S
 use Rattle.ledger.specs.declared.Scan.{Scan}
 use Rattle.ledger.specs.declared.Summary.{Summary}
-use Rattle.ledger.specs.declared.SurveyAnswer.TheVariants as Y
 use Rattle.ledger.specs.Lines.{fields_of, line_of, bytes_at, lines_of, is_malformed, some_malformed}
-use Rattle.ledger.specs.Standing.{withdraws, any_line, stands, cancelled, standing, overdrawn, or_else, last_standing}
+use Rattle.ledger.specs.Standing.{withdraws, any_line, stands, standing, overdrawn, or_else, last_standing}
 use Rattle.ledger.specs.Ledger.{capacity, ledger_malformed, is_sought, summary_for, survey_for, survey_of}
-use Rattle.ledger.specs.Survey.{number_else, scan_back, found_by, found_at}
+use Rattle.ledger.specs.Survey.{scan_back, found_by, found_at}
 use Rattle.ledger.proofs.Packing.{line_read}
 use Rattle.ledger.proofs.StandingLaws.{depth, cancelled-is, overdrawn-all, depth_small, standing-small}
 
--- the number of a line that was found
-abbrev pub number_of : Found → ℕ
-number_of (At index line) = index + 1
-number_of Nothing = 0
+-- the index of a line that was found
+abbrev pub index_of : Option Found → Option ℕ
+index_of (Some fd) = Some fd.index
+index_of None = None
 
-number-else : (f : Found) (i : ℕ) (l : Line) → number_else (number_of f) i ≡ number_of (or_else f (At i l))
-number-else (At j x) i l = rw (ne_eqb (j + 1) 0 (λ z. omega arith))
-number-else Nothing i l = refl
+index-else : (f : Option Found) (i : ℕ) (l : Line) → option_or (index_of f) (Some i) ≡ index_of (or_else f (Some (line_found i l)))
+index-else (Some fd) i l = refl
+index-else None i l = refl
 
 -- what a survey knows of the lines from this index on
 abbrev pub scan_of : Sought → ℕ → List Line → Scan
-scan_of q i ls = record { skip = depth ls; count = length (standing ls); last = number_of (last_standing any_line i ls); sought = number_of (last_standing (is_sought q) i ls) }
+scan_of q i ls = record { skip = depth ls; count = length (standing ls); last = index_of (last_standing any_line i ls); sought = index_of (last_standing (is_sought q) i ls) }
 
-pub scan-none : (q : Sought) (i : ℕ) → scan_of q i [] ≡ record { skip = 0; count = 0; last = 0; sought = 0 }
+pub scan-none : (q : Sought) (i : ℕ) → scan_of q i [] ≡ record { skip = 0; count = 0; last = None; sought = None }
 unfolding depth standing last_standing
 scan-none q i = refl
 
@@ -51,8 +49,8 @@ pub scan-more : (q : Sought) (i : ℕ) (l : Line) (ls : List Line) → scan_back
 unfolding scan_back depth standing last_standing
 scan-more q i l ls = go (withdraws l) refl (depth ls) refl (is_sought q l) refl
   where
-    found : (test : Line → Bool) → number_else (number_of (last_standing test (suc i) ls)) i ≡ number_of (or_else (last_standing test (suc i) ls) (At i l))
-    found test = number-else (last_standing test (suc i) ls) i l
+    found : (test : Line → Bool) → option_or (index_of (last_standing test (suc i) ls)) (Some i) ≡ index_of (or_else (last_standing test (suc i) ls) (Some (line_found i l)))
+    found test = index-else (last_standing test (suc i) ls) i l
 
     go : (t : Bool) → withdraws l ≡ t → (d : ℕ) → depth ls ≡ d → (k : Bool) → is_sought q l ≡ k → scan_back (scan_of q (suc i) ls) i l q ≡ scan_of q i (l ∷ ls)
     go true e d f k g = rw (e, add-one)
@@ -98,44 +96,35 @@ malformed-later t n i h m =
     let e : n ≡ i + (n - i) = omega arith in
     ap (λ (k : ℕ). some_malformed k t) e ∙ some-split i (n - i) t ∙ rw m (or-true (some_malformed i t))
 
-pub line-fields : (t : List ℕ) (l : Line) → line_of t ≡ WellFormed l → l ≡ fields_of (big t)
+pub line-fields : (t : List ℕ) (l : Line) → line_of t ≡ Some l → l ≡ fields_of (big t)
 unfolding line_of
 line-fields t l e = go (eqb (length t) 16) refl
   where
     go : (b : Bool) → eqb (length t) 16 ≡ b → l ≡ fields_of (big t)
     go true q = (line_read (big t) l (rw q at e)).is
-    go false q = let z : ◌≡◌ {A = ℕ} 0 1 = let w : Malformed ≡ WellFormed l = rw q at e in cc in absurd (omega arith)
+    go false q = let z : ◌≡◌ {A = ℕ} 0 1 = let w : None ≡ Some l = rw q at e in cc in absurd (omega arith)
 
 pub or-none : (a b : Bool) → (a || b) ≡ false → (a ≡ false) × (b ≡ false)
 or-none true b e = let z : ◌≡◌ {A = ℕ} 0 1 = cc in absurd (omega arith)
 or-none false b e = (refl, e)
 
--- a line that was found is found again by its number
+-- a line that was found is found again by its index
 
-pub found_none : (t : List ℕ) (number : ℕ) → number ≡ 0 → Nothing ≡ found_at t number
-unfolding found_at
-found_none t number e = rw e
-
-pub found_some : (t : List ℕ) (number : ℕ) → (number ≡ 0 → ⊥) → (a : LineAnswer) → line_of (bytes_at t (number - 1)) ≡ a → found_by (number - 1) a ≡ found_at t number
-unfolding found_at
-found_some t zero n a e = absurd (n refl)
-found_some t (suc i) n a e = let p : suc i - 1 ≡ i = omega arith in rw (← e, p)
-
-found-else : (f : Found) (b : Bool) (t : List ℕ) (i : ℕ) (l : Line) → found_at t (number_of f) ≡ f → found_at t (suc i) ≡ At i l
-    → found_at t (number_of (if◌then◌else◌ b (or_else f (At i l)) f)) ≡ if◌then◌else◌ b (or_else f (At i l)) f
+found-else : (f : Option Found) (b : Bool) (t : List ℕ) (i : ℕ) (l : Line) → found_at t (index_of f) ≡ f → found_at t (Some i) ≡ Some (line_found i l)
+    → found_at t (index_of (if◌then◌else◌ b (or_else f (Some (line_found i l))) f)) ≡ if◌then◌else◌ b (or_else f (Some (line_found i l))) f
 found-else f false t i l e g = e
-found-else (At j x) true t i l e g = e
-found-else Nothing true t i l e g = rw (add-one i) g
+found-else (Some fd) true t i l e g = e
+found-else None true t i l e g = g
 
-line-there : (t : List ℕ) → is_malformed (line_of t) ≡ false → line_of t ≡ WellFormed (fields_of (big t))
+line-there : (t : List ℕ) → is_malformed (line_of t) ≡ false → line_of t ≡ Some (fields_of (big t))
 line-there t h = go (line_of t) refl h
   where
-    go : (a : LineAnswer) → line_of t ≡ a → is_malformed a ≡ false → line_of t ≡ WellFormed (fields_of (big t))
-    go (WellFormed l) e m = e ∙ ap WellFormed (line-fields t l e)
-    go Malformed e m = let z : ◌≡◌ {A = ℕ} 0 1 = cc in absurd (omega arith)
+    go : (a : Option Line) → line_of t ≡ a → is_malformed a ≡ false → line_of t ≡ Some (fields_of (big t))
+    go (Some l) e m = e ∙ ap Some (line-fields t l e)
+    go None e m = let z : ◌≡◌ {A = ℕ} 0 1 = cc in absurd (omega arith)
 
 found_from : (test : Line → Bool) (t : List ℕ) (m i : ℕ) → some_malformed m (drop (i * 16) t) ≡ false
-    → found_at t (number_of (last_standing test i (lines_of m (drop (i * 16) t)))) ≡ last_standing test i (lines_of m (drop (i * 16) t))
+    → found_at t (index_of (last_standing test i (lines_of m (drop (i * 16) t)))) ≡ last_standing test i (lines_of m (drop (i * 16) t))
 unfolding last_standing lines_of some_malformed found_at
 found_from test t zero i h = refl
 found_from test t (suc m) i h =
@@ -145,7 +134,7 @@ found_from test t (suc m) i h =
     let ls : List Line = lines_of m (drop (suc i * 16) t) in
     rw (next_place t i) (found-else (last_standing test (suc i) ls) (stands l ls && test l) t i l later (ap (found_by i) (line-there (bytes_at t i) o.0)))
 
-found-again : (test : Line → Bool) (t : List ℕ) (n : ℕ) → some_malformed n t ≡ false → found_at t (number_of (last_standing test 0 (lines_of n t))) ≡ last_standing test 0 (lines_of n t)
+found-again : (test : Line → Bool) (t : List ℕ) (n : ℕ) → some_malformed n t ≡ false → found_at t (index_of (last_standing test 0 (lines_of n t))) ≡ last_standing test 0 (lines_of n t)
 found-again test t n h = found_from test t n 0 h
 
 -- a survey on its way: lines from i on are passed
@@ -155,7 +144,7 @@ pub record Surveying (q : Sought) (t : List ℕ) (n i : ℕ) (s : Scan) : Type 0
   pub scan : s ≡ scan_of q i (lines_of (n - i) (drop (i * 16) t))
   pub well : some_malformed (n - i) (drop (i * 16) t) ≡ false
 
-pub surveying-start : (q : Sought) (t : List ℕ) (n : ℕ) → Surveying q t n n (record { skip = 0; count = 0; last = 0; sought = 0 })
+pub surveying-start : (q : Sought) (t : List ℕ) (n : ℕ) → Surveying q t n n (record { skip = 0; count = 0; last = None; sought = None })
 unfolding lines_of some_malformed
 surveying-start q t n =
     let e : n - n ≡ 0 = omega arith in
@@ -174,13 +163,13 @@ module _ {q : Sought} {t : List ℕ} {n i : ℕ} {s : Scan} (f : Surveying q t n
       let e : s.count ≡ length (standing ls) = ap (λ (x : Scan). x.count) f.scan in
       omega (arith, standing-small ls, length-lines (n - i) (drop (i * 16) t), f.upto)
 
-  pub surveying-bad : (j : ℕ) → i ≡ suc j → line_of (bytes_at t j) ≡ Malformed → ledger_malformed t n ≡ true
+  pub surveying-bad : (j : ℕ) → i ≡ suc j → line_of (bytes_at t j) ≡ None → ledger_malformed t n ≡ true
   unfolding ledger_malformed
   surveying-bad j e b =
       let m : some_malformed (n - j) (drop (j * 16) t) ≡ true = malformed-from t n j (omega (arith, f.upto)) ∙ rw b in
       rw (malformed-later t n j (omega (arith, f.upto)) m) (or-true (ltb (capacity t) n))
 
-  pub surveying-more : (j : ℕ) (l : Line) (s' : Scan) → i ≡ suc j → line_of (bytes_at t j) ≡ WellFormed l → s' ≡ scan_back s j l q → Surveying q t n j s'
+  pub surveying-more : (j : ℕ) (l : Line) (s' : Scan) → i ≡ suc j → line_of (bytes_at t j) ≡ Some l → s' ≡ scan_back s j l q → Surveying q t n j s'
   surveying-more j l s' e b back =
       let h : j < n = omega (arith, f.upto) in
       let k : Surveying q t n (suc j) s = rw e at f in
@@ -208,15 +197,15 @@ module _ {q : Sought} {t : List ℕ} {n i : ℕ} {s : Scan} (f : Surveying q t n
   pub surveying-over : i ≡ 0 → n ≤ capacity t → 0 < s.skip → ledger_malformed t n ≡ true
   surveying-over e h k = verdict true e h (lt-ltb _ _ k)
 
-  pub surveying-done : i ≡ 0 → n ≤ capacity t → s.skip ≤ 0 → Y.Surveyed (record { last = found_at t s.last; sought = found_at t s.sought; count = s.count }) ≡ survey_for q t n
+  pub surveying-done : i ≡ 0 → n ≤ capacity t → s.skip ≤ 0 → Some (record { last = found_at t s.last; sought = found_at t s.sought; count = s.count }) ≡ survey_for q t n
   unfolding survey_for summary_for
   surveying-done e h k =
       let w = whole e in
       rw (verdict false e h (le-ltb 0 s.skip k))
-      (ap (λ (x : Scan). Y.Surveyed (record { last = found_at t x.last; sought = found_at t x.sought; count = x.count })) w.0 ∙ rw (found-again any_line t n w.1, found-again (is_sought q) t n w.1))
+      (ap (λ (x : Scan). Some (record { last = found_at t x.last; sought = found_at t x.sought; count = x.count })) w.0 ∙ rw (found-again any_line t n w.1, found-again (is_sought q) t n w.1))
 
 -- the answer of a survey that meets refusal 20
-pub survey-refused : (q : Sought) (t : List ℕ) (n : ℕ) → ledger_malformed t n ≡ true → Y.Malformed ≡ survey_for q t n
+pub survey-refused : (q : Sought) (t : List ℕ) (n : ℕ) → ledger_malformed t n ≡ true → None ≡ survey_for q t n
 unfolding survey_for
 survey-refused q t n e = rw e
 
@@ -226,7 +215,7 @@ claimed-more t n h = rw (lt-ltb (capacity t) n h)
 
 -- what a survey's answer says
 
-survey-tests : (q : Sought) (t : List ℕ) (n : ℕ) → survey_for q t n ≡ if◌then◌else◌ (ledger_malformed t n) Y.Malformed (Y.Surveyed (summary_for q (lines_of n t)))
+survey-tests : (q : Sought) (t : List ℕ) (n : ℕ) → survey_for q t n ≡ if◌then◌else◌ (ledger_malformed t n) None (Some (summary_for q (lines_of n t)))
 unfolding survey_for
 survey-tests q t n = refl
 
@@ -235,24 +224,24 @@ pub record Sound (q : Sought) (t : List ℕ) (n : ℕ) (s : Summary) : Type 0 wh
   pub is : s ≡ summary_for q (lines_of n t)
 
 module _ (q : Sought) (t : List ℕ) (n : ℕ) where
-  pub malformed-for : survey_for q t n ≡ Y.Malformed → ledger_malformed t n ≡ true
+  pub malformed-for : survey_for q t n ≡ None → ledger_malformed t n ≡ true
   malformed-for e = go (ledger_malformed t n) (sym (survey-tests q t n) ∙ e)
     where
-      go : (b : Bool) → if◌then◌else◌ b Y.Malformed (Y.Surveyed (summary_for q (lines_of n t))) ≡ Y.Malformed → b ≡ true
+      go : (b : Bool) → if◌then◌else◌ b None (Some (summary_for q (lines_of n t))) ≡ None → b ≡ true
       go true h = refl
       go false h = let z : ◌≡◌ {A = ℕ} 0 1 = cc in absurd (omega arith)
 
-  pub sound-for : (s : Summary) → survey_for q t n ≡ Y.Surveyed s → Sound q t n s
+  pub sound-for : (s : Summary) → survey_for q t n ≡ Some s → Sound q t n s
   sound-for s e = go (ledger_malformed t n) refl (sym (survey-tests q t n) ∙ e)
     where
-      go : (b : Bool) → ledger_malformed t n ≡ b → if◌then◌else◌ b Y.Malformed (Y.Surveyed (summary_for q (lines_of n t))) ≡ Y.Surveyed s → Sound q t n s
+      go : (b : Bool) → ledger_malformed t n ≡ b → if◌then◌else◌ b None (Some (summary_for q (lines_of n t))) ≡ Some s → Sound q t n s
       go true p h = let z : ◌≡◌ {A = ℕ} 0 1 = cc in absurd (omega arith)
       go false p h = record { well = p; is = cc }
 
-pub survey-malformed : (t : List ℕ) (n : ℕ) → survey_of t n ≡ Y.Malformed → ledger_malformed t n ≡ true
+pub survey-malformed : (t : List ℕ) (n : ℕ) → survey_of t n ≡ None → ledger_malformed t n ≡ true
 survey-malformed = malformed-for S.Keep
 
-pub survey-sound : (t : List ℕ) (n : ℕ) (s : Summary) → survey_of t n ≡ Y.Surveyed s → Sound S.Keep t n s
+pub survey-sound : (t : List ℕ) (n : ℕ) (s : Summary) → survey_of t n ≡ Some s → Sound S.Keep t n s
 survey-sound = sound-for S.Keep
 
 -- the last line that is looked for
@@ -271,3 +260,7 @@ lines-well t n e = (or-none (some_malformed n t) _ (or-none (ltb (capacity t) n)
 
 pub lines_fit : (t : List ℕ) (n : ℕ) → ledger_malformed t n ≡ false → n ≤ capacity t
 lines_fit t n e = ltb-false (capacity t) n (or-none (ltb (capacity t) n) _ (sym (malformed-tests t n) ∙ e)).0
+
+-- the refusal that `ok_or` gives for nothing
+pub refusal-is : {A E : Type 0} (o : Option A) (r e : E) → o ≡ None → ◌≡◌ {A = Result A E} (Err e) (ok_or o r) → e ≡ r
+refusal-is {A} {E} o r e n q = let p : ◌≡◌ {A = Result A E} (Err e) (Err r) = rw n at q in cc

@@ -9,11 +9,9 @@ use lib.ListN.{length, take, drop, length-append}
 use lib.Seq.{take_at, drop_at}
 use lib.Dec.{eqb}
 use borrow.Author.Tests.{le-ltb}
-use Rattle.std.specs.Prelude.{if◌then◌else◌}
+use Rattle.std.specs.Prelude.{if◌then◌else◌, None, Option, Some}
 use Rattle.lists.specs.Bytes.{big}
 use Rattle.ledger.specs.declared.Line.{Line}
-use Rattle.ledger.specs.declared.LineAnswer.{LineAnswer}
-use Rattle.ledger.specs.declared.LineAnswer.TheVariants.{WellFormed, Malformed}
 use Rattle.ledger.specs.Lines.{right_for, fields_of, line_from, line_of, line_bytes, lines_bytes, lines_of, is_malformed, some_malformed}
 use Rattle.ledger.specs.Standing.{overdrawn}
 use Rattle.ledger.specs.Ledger.{capacity, ledger_malformed}
@@ -70,22 +68,22 @@ fields-sized : (n : ℕ) → Sized (fields_of n)
 unfolding fields_of
 fields-sized n = record { year = omega arith; month = omega arith; day = omega arith; pixel = omega arith; old = omega arith; new = omega arith }
 
-line-tests : (t : List ℕ) → line_of t ≡ if◌then◌else◌ (eqb (length t) 16) (line_from (big t)) Malformed
+line-tests : (t : List ℕ) → line_of t ≡ if◌then◌else◌ (eqb (length t) 16) (line_from (big t)) None
 unfolding line_of
 line-tests t = refl
 
 line-writable : (t : List ℕ) → is_malformed (line_of t) ≡ false → Writable (fields_of (big t))
 line-writable t e = go (line_of t) refl e
   where
-    whole : (l : Line) (b : Bool) → if◌then◌else◌ b (line_from (big t)) Malformed ≡ WellFormed l → line_from (big t) ≡ WellFormed l
+    whole : (l : Line) (b : Bool) → if◌then◌else◌ b (line_from (big t)) None ≡ Some l → line_from (big t) ≡ Some l
     whole l true q = q
     whole l false q = let z : ◌≡◌ {A = ℕ} 0 1 = cc in absurd (omega arith)
 
-    go : (a : LineAnswer) → line_of t ≡ a → is_malformed a ≡ false → Writable (fields_of (big t))
-    go (WellFormed l) q h =
+    go : (a : Option Line) → line_of t ≡ a → is_malformed a ≡ false → Writable (fields_of (big t))
+    go (Some l) q h =
         let r = line_read (big t) l (whole l (eqb (length t) 16) (sym (line-tests t) ∙ q)) in
         record { sized = fields-sized (big t); right = rw (← r.is) r.right }
-    go Malformed q h = let z : ◌≡◌ {A = ℕ} 0 1 = cc in absurd (omega arith)
+    go None q h = let z : ◌≡◌ {A = ℕ} 0 1 = cc in absurd (omega arith)
 
 pub lines-writable : (n : ℕ) (t : List ℕ) → some_malformed n t ≡ false → Each Writable (lines_of n t)
 unfolding some_malformed lines_of

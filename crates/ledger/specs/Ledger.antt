@@ -1,21 +1,15 @@
 -- Document 01, "The ledger" and "Numbers given back": what the calls on a ledger answer and leave.
-use Rattle.std.specs.Prelude.{ℕ, ◌+◌, ◌-◌, ◌*◌, ◌/◌, Bool, not, ◌||◌, List, [], ◌++◌, length, take, drop, leb, ltb, if◌then◌else◌}
+use Rattle.ledger.specs.declared.Found.{Found}
+use Rattle.refusal.specs.declared.Refusal.{Refusal}
+use Rattle.std.specs.Prelude.{ℕ, ◌+◌, ◌*◌, ◌/◌, Bool, not, ◌||◌, List, [], ◌++◌, length, take, drop, leb, ltb, if◌then◌else◌, Err, None, Ok, Option, Result, Some}
 use Rattle.refusal.specs.declared.Refusal.TheVariants as R
 use Rattle.calendar.specs.declared.Date.{Date}
 use Rattle.calendar.specs.Calendar.{is_date, before}
 use Rattle.ledger.specs.declared.Kind.TheVariants.{Keep}
 use Rattle.ledger.specs.declared.Line.{Line}
-use Rattle.ledger.specs.declared.Found.{Found}
-use Rattle.ledger.specs.declared.Found.TheVariants.{At, Nothing}
 use Rattle.ledger.specs.declared.Sought.{Sought}
 use Rattle.ledger.specs.declared.Sought.TheVariants as S
 use Rattle.ledger.specs.declared.Summary.{Summary}
-use Rattle.ledger.specs.declared.SurveyAnswer.{SurveyAnswer}
-use Rattle.ledger.specs.declared.SurveyAnswer.TheVariants as Y
-use Rattle.ledger.specs.declared.LedgerAnswer.{LedgerAnswer}
-use Rattle.ledger.specs.declared.LedgerAnswer.TheVariants as L
-use Rattle.ledger.specs.declared.PurgeAnswer.{PurgeAnswer}
-use Rattle.ledger.specs.declared.PurgeAnswer.TheVariants as P
 use Rattle.ledger.specs.Lines.{lines_of, some_malformed, line_bytes}
 use Rattle.ledger.specs.Standing.{keeps, corrects, standing, overdrawn, last_standing, any_line}
 
@@ -42,12 +36,12 @@ unfoldable pub summary_for : Sought → List Line → Summary
 unfolding standing last_standing
 summary_for sought ls = record { last = last_standing any_line 0 ls; sought = last_standing (is_sought sought) 0 ls; count = length (standing ls) }
 
-unfoldable pub survey_for : Sought → List ℕ → ℕ → SurveyAnswer
+unfoldable pub survey_for : Sought → List ℕ → ℕ → Option Summary
 unfolding ledger_malformed lines_of summary_for
-survey_for sought t lines = if ledger_malformed t lines then Y.Malformed else Y.Surveyed (summary_for sought (lines_of lines t))
+survey_for sought t lines = if ledger_malformed t lines then None else Some (summary_for sought (lines_of lines t))
 
 -- with the last keep line
-abbrev pub survey_of : List ℕ → ℕ → SurveyAnswer
+abbrev pub survey_of : List ℕ → ℕ → Option Summary
 survey_of t lines = survey_for S.Keep t lines
 
 -- the bytes with the line written after the first `lines` lines
@@ -56,8 +50,8 @@ unfolding line_bytes
 with_line t lines l = take (lines * 16) t ++ (line_bytes l ++ drop (lines * 16 + 16) t)
 
 -- a line appended: the answer, and the bytes after it
-unfoldable pub append_answer : List ℕ → ℕ → LedgerAnswer
-append_answer t lines = if ledger_full t lines then L.Refused R.LedgerFull else L.Accepted (lines + 1)
+unfoldable pub append_answer : List ℕ → ℕ → Result ℕ Refusal
+append_answer t lines = if ledger_full t lines then Err R.LedgerFull else Ok (lines + 1)
 
 unfoldable pub append_bytes : List ℕ → ℕ → Line → List ℕ
 unfolding with_line
@@ -68,11 +62,11 @@ abbrev pub keep_line : Date → Line
 keep_line d = record { kind = Keep; date = d; pixel = 0; old = 0; new = 0 }
 
 -- the keep entry: 20, 25, 21; a refused one leaves every byte
-unfoldable pub keep_answer : List ℕ → ℕ → Date → LedgerAnswer
+unfoldable pub keep_answer : List ℕ → ℕ → Date → Result ℕ Refusal
 unfolding ledger_malformed is_date append_answer
 keep_answer t lines d =
-    if ledger_malformed t lines then L.Refused R.LedgerMalformed else
-    if not (is_date d) then L.Refused R.NotADate else
+    if ledger_malformed t lines then Err R.LedgerMalformed else
+    if not (is_date d) then Err R.NotADate else
     append_answer t lines
 
 unfoldable pub keep_bytes : List ℕ → ℕ → Date → List ℕ
@@ -83,15 +77,15 @@ keep_bytes t lines d =
     append_bytes t lines (keep_line d)
 
 -- the purge question, by the last keep line that stands: 26, 27
-unfoldable pub purge_by : Date → Found → PurgeAnswer
+unfoldable pub purge_by : Date → Option Found → Result (Unit {0}) Refusal
 unfolding before
-purge_by day Nothing = P.Refused R.NoKeepLine
-purge_by day (At index line) = if before line.date day then P.Allowed else P.Refused R.NotYet
+purge_by day None = Err R.NoKeepLine
+purge_by day (Some fd) = if before fd.line.date day then (Ok tt) else Err R.NotYet
 
 -- the purge question: 20, 25, 26, 27
-unfoldable pub purge_answer : List ℕ → ℕ → Date → PurgeAnswer
+unfoldable pub purge_answer : List ℕ → ℕ → Date → Result (Unit {0}) Refusal
 unfolding ledger_malformed is_date purge_by lines_of last_standing
 purge_answer t lines day =
-    if ledger_malformed t lines then P.Refused R.LedgerMalformed else
-    if not (is_date day) then P.Refused R.NotADate else
+    if ledger_malformed t lines then Err R.LedgerMalformed else
+    if not (is_date day) then Err R.NotADate else
     purge_by day (last_standing keeps 0 (lines_of lines t))

@@ -1,13 +1,11 @@
 -- Document 01, "The ledger": a line's 128 bits from the highest down, 2 of the kind, 12, 4 and 5 of the date, 24 of the pixel, 32 each of the old and the new count, 17 spare.
-use Rattle.std.specs.Prelude.{ℕ, zero, suc, ◌+◌, ◌*◌, ◌/◌, ◌%◌, ◌^◌, Bool, true, false, ◌&&◌, ◌||◌, List, [], ◌∷◌, ◌++◌, length, take, drop, eqb, ltb, if◌then◌else◌}
+use Rattle.std.specs.Prelude.{ℕ, zero, suc, ◌+◌, ◌*◌, ◌/◌, ◌%◌, ◌^◌, Bool, true, false, ◌&&◌, ◌||◌, List, [], ◌∷◌, ◌++◌, length, take, drop, eqb, ltb, if◌then◌else◌, None, Option, Some}
 use Rattle.lists.specs.Bytes.{big, big_bytes}
 use Rattle.calendar.specs.declared.Date.{Date}
 use Rattle.calendar.specs.Calendar.{is_date}
 use Rattle.ledger.specs.declared.Kind.{Kind}
 use Rattle.ledger.specs.declared.Kind.TheVariants.{Correction, Keep, Withdrawal}
 use Rattle.ledger.specs.declared.Line.{Line}
-use Rattle.ledger.specs.declared.LineAnswer.{LineAnswer}
-use Rattle.ledger.specs.declared.LineAnswer.TheVariants.{WellFormed, Malformed}
 
 -- the number of a kind
 abbrev pub kind_number : Kind → ℕ
@@ -53,14 +51,14 @@ unfoldable pub is_line : ℕ → Bool
 unfolding right_for fields_of
 is_line n = ltb (n / 2 ^ 126) 3 && (eqb (n % 2 ^ 17) 0 && right_for (fields_of n).kind (fields_of n))
 
-unfoldable pub line_from : ℕ → LineAnswer
+unfoldable pub line_from : ℕ → Option Line
 unfolding is_line fields_of
-line_from n = if is_line n then WellFormed (fields_of n) else Malformed
+line_from n = if is_line n then Some (fields_of n) else None
 
 -- the line of 16 bytes
-unfoldable pub line_of : List ℕ → LineAnswer
+unfoldable pub line_of : List ℕ → Option Line
 unfolding line_from
-line_of t = if eqb (length t) 16 then line_from (big t) else Malformed
+line_of t = if eqb (length t) 16 then line_from (big t) else None
 
 -- the number of a line; a field that is too large loses its upper bits
 unfoldable pub line_number : Line → ℕ
@@ -94,9 +92,9 @@ unfolding fields_of
 lines_of zero t = []
 lines_of (suc n) t = fields_of (big (take 16 t)) ∷ lines_of n (drop 16 t)
 
-abbrev pub is_malformed : LineAnswer → Bool
-is_malformed (WellFormed l) = false
-is_malformed Malformed = true
+abbrev pub is_malformed : Option Line → Bool
+is_malformed (Some l) = false
+is_malformed None = true
 
 -- one of the first n lines is malformed
 unfoldable pub some_malformed : ℕ → List ℕ → Bool

@@ -1,10 +1,12 @@
 -- Document 01, "The ledger": which lines stand.
-use Rattle.std.specs.Prelude.{ℕ, suc, ◌+◌, Bool, true, false, not, ◌&&◌, ◌||◌, List, [], ◌∷◌, ◌++◌, length, eqb, ltb, if◌then◌else◌}
+use Rattle.ledger.specs.declared.Found.{Found}
+use Rattle.std.specs.Prelude.{ℕ, suc, ◌+◌, Bool, true, false, not, ◌&&◌, ◌||◌, List, [], ◌∷◌, ◌++◌, length, eqb, ltb, if◌then◌else◌, None, Option, Some}
 use Rattle.ledger.specs.declared.Kind.{Kind}
 use Rattle.ledger.specs.declared.Kind.TheVariants.{Correction, Keep, Withdrawal}
 use Rattle.ledger.specs.declared.Line.{Line}
-use Rattle.ledger.specs.declared.Found.{Found}
-use Rattle.ledger.specs.declared.Found.TheVariants.{At, Nothing}
+
+abbrev pub line_found : ℕ → Line → Found
+line_found index line = record { index = index; line = line }
 
 abbrev pub is_withdrawal : Kind → Bool
 is_withdrawal Correction = false
@@ -61,16 +63,16 @@ overdrawn earlier (l ∷ ls) =
     (withdraws l && eqb (length (standing earlier)) 0) || overdrawn (earlier ++ l ∷ []) ls
 
 -- the first if there is one, else the second
-abbrev pub or_else : Found → Found → Found
-or_else (At index line) other = At index line
-or_else Nothing other = other
+abbrev pub or_else : Option Found → Option Found → Option Found
+or_else (Some fd) other = Some (line_found fd.index fd.line)
+or_else None other = other
 
 -- the last line that stands and passes the test, with its index, where the first has this one
-unfoldable pub last_standing : (Line → Bool) → ℕ → List Line → Found
+unfoldable pub last_standing : (Line → Bool) → ℕ → List Line → Option Found
 unfolding cancelled
-last_standing test index [] = Nothing
+last_standing test index [] = None
 last_standing test index (l ∷ ls) =
-    if stands l ls && test l then or_else (last_standing test (suc index) ls) (At index l) else
+    if stands l ls && test l then or_else (last_standing test (suc index) ls) (Some (line_found index l)) else
     last_standing test (suc index) ls
 
 abbrev pub any_line : Line → Bool

@@ -1,17 +1,15 @@
 // The ledger: its lines in bytes, which of them stand, keep entries and purge questions.
 #![tactic(auto)]
 
-ghost use Rattle.std.specs.Prelude.{◌≡◌, ◌++◌, ℕ, ◌+◌, ◌*◌, ◌/◌, ◌%◌, ◌^◌, ◌<◌, ◌≤◌, length, take, drop};
-ghost use Rattle.lists.specs.Bytes.{big, big_bytes};
-ghost use Rattle.ledger.specs.Lines.{kind_number, kind_from, is_no_date, no_counts, right_for, fields_of, line_from, line_of, line_number, bytes_at};
-ghost use Rattle.ledger.specs.Standing.{is_withdrawal, is_keep, is_correction};
+ghost use Rattle.std.specs.Prelude.{◌≡◌, ◌+◌, ◌*◌, ◌^◌, ◌<◌, ◌≤◌, length};
+ghost use Rattle.ledger.specs.Lines.{kind_from, is_no_date, no_counts, right_for, fields_of, line_from, line_of, line_number, bytes_at};
 ghost use Rattle.ledger.specs.Ledger.{is_sought, survey_for, survey_of, with_line, append_answer, append_bytes, keep_answer, keep_bytes, purge_by, purge_answer};
-ghost use Rattle.ledger.specs.Survey.{number_else, scan_back, found_at};
+ghost use Rattle.ledger.specs.Survey.{scan_back, found_at};
 
 use calendar::Date;
 use refusal::Refusal;
 
-#[derive(Clone, Copy)]
+#[derive(Clone, Copy, PartialEq, Eq)]
 pub enum Kind {
     Correction,
     Keep,
@@ -28,17 +26,11 @@ pub struct Line {
     pub new: u32,
 }
 
-#[derive(Clone, Copy)]
-pub enum LineAnswer {
-    WellFormed(Line),
-    Malformed,
-}
-
 // A line that was looked for, with its index.
 #[derive(Clone, Copy)]
-pub enum Found {
-    At { index: usize, line: Line },
-    Nothing,
+pub struct Found {
+    pub index: usize,
+    pub line: Line,
 }
 
 // What is looked for among the lines that stand: a keep line, or a correction of a pixel.
@@ -51,243 +43,132 @@ pub enum Sought {
 // Of the lines that stand: the last, the last of those that are looked for, and how many they are.
 #[derive(Clone, Copy)]
 pub struct Summary {
-    pub last: Found,
-    pub sought: Found,
+    pub last: Option<Found>,
+    pub sought: Option<Found>,
     pub count: usize,
 }
 
-#[derive(Clone, Copy)]
-pub enum SurveyAnswer {
-    Surveyed(Summary),
-    Malformed,
-}
-
-#[derive(Clone, Copy)]
-pub enum LedgerAnswer {
-    Accepted { lines: u64 },
-    Refused(Refusal),
-}
-
-#[derive(Clone, Copy)]
-pub enum PurgeAnswer {
-    Allowed,
-    Refused(Refusal),
-}
-
-// What a survey knows on its way from the last line back to the first. Lines are noted by their number from 1, with 0 for none.
+// What a survey knows on its way from the last line back to the first. It notes lines by their index: whole lines in it cost half as much time again.
 #[derive(Clone, Copy)]
 struct Scan {
     pub skip: usize,
     pub count: usize,
-    pub last: usize,
-    pub sought: usize,
+    pub last: Option<usize>,
+    pub sought: Option<usize>,
 }
 
-// The lowest bit of each field: in the high word, then in the low word.
-const KIND: u64 = 4611686018427387904;
+// The lowest bit of each field.
+const KIND: u128 = 1 << 126;
 
-const YEAR: u64 = 1125899906842624;
+const YEAR: u128 = 1 << 114;
 
-const MONTH: u64 = 70368744177664;
+const MONTH: u128 = 1 << 110;
 
-const DAY: u64 = 2199023255552;
+const DAY: u128 = 1 << 105;
 
-const PIXEL: u64 = 131072;
+const PIXEL: u128 = 1 << 81;
 
-const OLD: u64 = 562949953421312;
+const OLD: u128 = 1 << 49;
 
-const NEW: u64 = 131072;
+const NEW: u128 = 1 << 17;
 
-// The high word of a withdrawal.
-const WITHDRAWAL: u64 = 9223372036854775808;
+// The number of a withdrawal.
+const WITHDRAWAL: u128 = 2 << 126;
 
-// The number in the four bytes from `at`, most significant first.
-fn half_word(t: &[u8], at: usize) -> u64
-    requires { at + 4 ≤ length t.now }
-    ensures value { result ≡ big (take 4 (drop at t.now)) }
-    ensures upper_bound { result < 2 ^ 32 }
-{
-    let mut v: u64 = 0;
-    let mut i = 0;
-    while i < 4 {
-        v = v * 256 + (t[at + i] as u64);
-        i += 1;
-    }
-    v
-}
-
-// The word in the eight bytes from `at`, most significant first. A loop over eight is not made one load, one over four is.
-fn word(t: &[u8], at: usize) -> u64
-    requires { at + 8 ≤ length t.now }
-    ensures { result ≡ big (take 8 (drop at t.now)) }
-{
-    half_word(t, at) * 4294967296 + half_word(t, at + 4)
-}
-
-// Stores the word v in the eight bytes from `at`, most significant first.
-fn put_word(t: &mut [u8], at: usize, v: u64)
-    requires { at + 8 ≤ length t.old }
-    ensures { t.new ≡ take at t.old ++ (big_bytes 8 v ++ drop (at + 8) t.old) }
-{
-    let mut m = 8;
-    let mut x = v;
-    while 0 < m {
-        m -= 1;
-        t[at + m] = (x % 256) as u8;
-        x = x / 256;
-    }
-}
-
-fn kind_from(k: u64) -> Kind
+// Total, by its definition: numbers from 2 on are a withdrawal, so neither From nor TryFrom would say it.
+#[tactic(auto, unfolding(crate::specs::Lines::kind_from))]
+fn kind_from(k: u128) -> Kind
     ensures { result ≡ kind_from k }
 {
-    if k == 0 {
-        return Kind::Correction;
+    match k {
+        0 => Kind::Correction,
+        1 => Kind::Keep,
+        _ => Kind::Withdrawal,
     }
-    if k == 1 {
-        return Kind::Keep;
-    }
-    Kind::Withdrawal
 }
 
-fn fields_of(hi: u64, lo: u64) -> Line
-    ensures { result ≡ fields_of (hi * 2 ^ 64 + lo) }
+#[tactic(auto, unfolding(crate::specs::Lines::fields_of))]
+fn fields_of(n: u128) -> Line
+    ensures { result ≡ fields_of n }
 {
     let date = Date {
-        year: (hi / YEAR % 4096) as u32,
-        month: (hi / MONTH % 16) as u32,
-        day: (hi / DAY % 32) as u32,
+        year: (n / YEAR % 4096) as u32,
+        month: (n / MONTH % 16) as u32,
+        day: (n / DAY % 32) as u32,
     };
     Line {
-        kind: kind_from(hi / KIND),
+        kind: kind_from(n / KIND),
         date,
-        pixel: (hi / PIXEL % 16777216) as u32,
-        old: (hi % PIXEL * 32768 + lo / OLD) as u32,
-        new: (lo / NEW % 4294967296) as u32,
+        pixel: (n / PIXEL % 16777216) as u32,
+        old: (n / OLD % 4294967296) as u32,
+        new: (n / NEW % 4294967296) as u32,
     }
 }
 
 fn is_no_date(d: Date) -> bool
     ensures { result ≡ is_no_date d }
 {
-    if d.year != 0 {
-        return false;
-    }
-    if d.month != 0 {
-        return false;
-    }
-    d.day == 0
+    d.year == 0 && d.month == 0 && d.day == 0
 }
 
 fn has_no_counts(l: Line) -> bool
     ensures { result ≡ no_counts l }
 {
-    if l.pixel != 0 {
-        return false;
-    }
-    if l.old != 0 {
-        return false;
-    }
-    l.new == 0
+    l.pixel == 0 && l.old == 0 && l.new == 0
 }
 
 // Whether the fields are what the kind asks.
+#[tactic(auto, unfolding(crate::specs::Lines::right_for))]
 fn is_right(l: Line) -> bool
     ensures { result ≡ right_for l.kind l }
 {
-    let kind = l.kind;
-    let date = l.date;
-    match kind {
-        Kind::Correction => is_no_date(date),
-        Kind::Keep => {
-            if calendar::is_date(date) {
-                return has_no_counts(l);
-            }
-            false
-        }
-        Kind::Withdrawal => {
-            if is_no_date(date) {
-                return has_no_counts(l);
-            }
-            false
-        }
+    match l.kind {
+        Kind::Correction => is_no_date(l.date),
+        Kind::Keep => calendar::is_date(l.date) && has_no_counts(l),
+        Kind::Withdrawal => is_no_date(l.date) && has_no_counts(l),
     }
 }
 
-fn line_from(hi: u64, lo: u64) -> LineAnswer
-    ensures { result ≡ line_from (hi * 2 ^ 64 + lo) }
+#[tactic(auto, unfolding(crate::specs::Lines::line_from, crate::specs::Lines::is_line))]
+fn line_from(n: u128) -> Option<Line>
+    ensures { result ≡ line_from n }
 {
-    if 3 <= hi / KIND {
-        return LineAnswer::Malformed;
-    }
-    if lo % NEW != 0 {
-        return LineAnswer::Malformed;
-    }
-    let line = fields_of(hi, lo);
-    if is_right(line) {
-        return LineAnswer::WellFormed(line);
-    }
-    LineAnswer::Malformed
+    let line = fields_of(n);
+    (n / KIND < 3 && n % NEW == 0 && is_right(line)).then_some(line)
 }
 
 // The line with this index; malformed where the bytes do not hold it whole.
-pub fn line_at(ledger: &[u8], index: usize) -> LineAnswer
+pub fn line_at(ledger: &[u8], index: usize) -> Option<Line>
     ensures { result ≡ line_of (bytes_at ledger.now index) }
 {
-    if ledger.len() / 16 <= index {
-        return LineAnswer::Malformed;
-    }
-    let at = index * 16;
-    let hi = word(ledger, at);
-    let lo = word(ledger, at + 8);
-    line_from(hi, lo)
+    let (lines, _) = ledger.as_chunks::<16>();
+    line_from(u128::from_be_bytes(*lines.get(index)?))
 }
 
-// The line in two words. Corrections and withdrawals, of which most ledgers are, take two tests each. A survey alone calls this, so that it becomes part
-// of its loop.
-fn line_of_words(hi: u64, lo: u64) -> LineAnswer
-    ensures { result ≡ line_from (hi * 2 ^ 64 + lo) }
+// Corrections and withdrawals, of which most ledgers are, take two tests each. A survey alone calls this, so that it becomes part of its loop.
+fn line_of_number(n: u128) -> Option<Line>
+    ensures { result ≡ line_from n }
 {
-    if hi < DAY {
-        if lo % NEW == 0 {
-            return LineAnswer::WellFormed(fields_of(hi, lo));
-        }
-        return LineAnswer::Malformed;
+    if n < DAY {
+        return (n % NEW == 0).then_some(fields_of(n));
     }
-    if lo == 0 {
-        if hi == WITHDRAWAL {
-            return LineAnswer::WellFormed(fields_of(hi, lo));
-        }
+    if n == WITHDRAWAL {
+        return Some(fields_of(n));
     }
-    line_from(hi, lo)
+    line_from(n)
 }
 
-fn kind_number(k: Kind) -> u64
-    ensures { result ≡ kind_number k }
+#[tactic(auto, unfolding(crate::specs::Lines::line_number))]
+fn line_number(l: Line) -> u128
+    ensures { result ≡ line_number l }
 {
-    match k {
-        Kind::Correction => 0,
-        Kind::Keep => 1,
-        Kind::Withdrawal => 2,
-    }
-}
-
-fn high_word(l: Line) -> u64
-    ensures { result ≡ line_number l / 2 ^ 64 }
-{
-    let kind = l.kind;
-    let d = l.date;
-    let year = (d.year % 4096) as u64 * YEAR;
-    let month = (d.month % 16) as u64 * MONTH;
-    let day = (d.day % 32) as u64 * DAY;
-    let pixel = (l.pixel % 16777216) as u64 * PIXEL;
-    kind_number(kind) * KIND + year + month + day + pixel + (l.old / 32768) as u64
-}
-
-fn low_word(l: Line) -> u64
-    ensures { result ≡ line_number l % 2 ^ 64 }
-{
-    (l.old % 32768) as u64 * OLD + (l.new as u64) * NEW
+    l.kind as u128 * KIND
+        + u128::from(l.date.year % 4096) * YEAR
+        + u128::from(l.date.month % 16) * MONTH
+        + u128::from(l.date.day % 32) * DAY
+        + u128::from(l.pixel % 16777216) * PIXEL
+        + u128::from(l.old) * OLD
+        + u128::from(l.new) * NEW
 }
 
 // Writes the line with this index.
@@ -296,147 +177,79 @@ fn put_line(ledger: &mut [u8], index: usize, line: Line)
     ensures { ledger.new ≡ with_line ledger.old index line }
 {
     let at = index * 16;
-    let next = at + 8;
-    put_word(ledger, at, high_word(line));
-    put_word(ledger, next, low_word(line));
-}
-
-fn or_else(number: usize, index: usize) -> usize
-    requires { index + 1 < 2 ^ 64 }
-    ensures { result ≡ number_else number index }
-{
-    if number == 0 {
-        return index + 1;
-    }
-    number
-}
-
-fn is_keep(kind: Kind) -> bool
-    ensures { result ≡ is_keep kind }
-{
-    match kind {
-        Kind::Correction => false,
-        Kind::Keep => true,
-        Kind::Withdrawal => false,
-    }
-}
-
-fn is_correction(kind: Kind) -> bool
-    ensures { result ≡ is_correction kind }
-{
-    match kind {
-        Kind::Correction => true,
-        Kind::Keep => false,
-        Kind::Withdrawal => false,
-    }
-}
-
-pub fn is_withdrawal(kind: Kind) -> bool
-    ensures { result ≡ is_withdrawal kind }
-{
-    match kind {
-        Kind::Correction => false,
-        Kind::Keep => false,
-        Kind::Withdrawal => true,
-    }
+    ledger[at..at + 16].copy_from_slice(&line_number(line).to_be_bytes());
 }
 
 fn is_sought(sought: Sought, line: Line) -> bool
     ensures { result ≡ is_sought sought line }
 {
-    let kind = line.kind;
     match sought {
-        Sought::Keep => is_keep(kind),
+        Sought::Keep => line.kind == Kind::Keep,
         Sought::Correction { pixel } => {
-            if is_correction(kind) {
-                return line.pixel as u64 == pixel;
-            }
-            false
+            line.kind == Kind::Correction && u64::from(line.pixel) == pixel
         }
     }
 }
 
 // One line further back.
+#[tactic(auto, unfolding(crate::specs::Survey::scan_back))]
 fn scan_back(s: Scan, index: usize, line: Line, sought: Sought) -> Scan
-    requires { (s.skip + 1 < 2 ^ 64) × (s.count + 1 < 2 ^ 64) × (index + 1 < 2 ^ 64) }
+    requires { (s.skip + 1 < 2 ^ 64) × (s.count + 1 < 2 ^ 64) }
     ensures { result ≡ scan_back s index line sought }
 {
-    let kind = line.kind;
-    if is_withdrawal(kind) {
+    if line.kind == Kind::Withdrawal {
         return Scan {
             skip: s.skip + 1,
-            count: s.count,
-            last: s.last,
-            sought: s.sought,
+            ..s
         };
     }
     if 0 < s.skip {
         return Scan {
             skip: s.skip - 1,
-            count: s.count,
-            last: s.last,
-            sought: s.sought,
-        };
-    }
-    let last = or_else(s.last, index);
-    if is_sought(sought, line) {
-        return Scan {
-            skip: 0,
-            count: s.count + 1,
-            last,
-            sought: or_else(s.sought, index),
+            ..s
         };
     }
     Scan {
         skip: 0,
         count: s.count + 1,
-        last,
-        sought: s.sought,
+        last: s.last.or(Some(index)),
+        sought: if is_sought(sought, line) {
+            s.sought.or(Some(index))
+        } else {
+            s.sought
+        },
     }
 }
 
-// The line with this number.
-fn found_at(ledger: &[u8], number: usize) -> Found
-    ensures { result ≡ found_at ledger.now number }
+#[tactic(auto, unfolding(crate::specs::Survey::found_at))]
+fn found_at(ledger: &[u8], noted: Option<usize>) -> Option<Found>
+    ensures { result ≡ found_at ledger.now noted }
 {
-    if number == 0 {
-        return Found::Nothing;
-    }
-    let index = number - 1;
-    let LineAnswer::WellFormed(line) = line_at(ledger, index) else {
-        return Found::Nothing;
-    };
-    Found::At { index, line }
+    let index = noted?;
+    let line = line_at(ledger, index)?;
+    Some(Found { index, line })
 }
 
 // What stands of the first `lines` lines, and the last that is looked for, in one pass from the last to the first.
-pub fn survey_for(ledger: &[u8], lines: u64, sought: Sought) -> SurveyAnswer
+pub fn survey_for(ledger: &[u8], lines: u64, sought: Sought) -> Option<Summary>
     ensures { result ≡ survey_for sought ledger.now lines }
 {
-    if ((ledger.len() / 16) as u64) < lines {
-        return SurveyAnswer::Malformed;
-    }
+    let (held, _) = ledger.as_chunks::<16>();
+    let held = held.get(..lines as usize)?;
     let mut s = Scan {
         skip: 0,
         count: 0,
-        last: 0,
-        sought: 0,
+        last: None,
+        sought: None,
     };
-    let mut i = lines as usize;
-    while 0 < i {
-        i -= 1;
-        let at = i * 16;
-        let hi = word(ledger, at);
-        let lo = word(ledger, at + 8);
-        let LineAnswer::WellFormed(line) = line_of_words(hi, lo) else {
-            return SurveyAnswer::Malformed;
-        };
+    for i in (0..held.len()).rev() {
+        let line = line_of_number(u128::from_be_bytes(held[i]))?;
         s = scan_back(s, i, line, sought);
     }
     if 0 < s.skip {
-        return SurveyAnswer::Malformed;
+        return None;
     }
-    SurveyAnswer::Surveyed(Summary {
+    Some(Summary {
         last: found_at(ledger, s.last),
         sought: found_at(ledger, s.sought),
         count: s.count,
@@ -444,34 +257,33 @@ pub fn survey_for(ledger: &[u8], lines: u64, sought: Sought) -> SurveyAnswer
 }
 
 // What stands of the first `lines` lines, and the last keep line.
-pub fn survey(ledger: &[u8], lines: u64) -> SurveyAnswer
+pub fn survey(ledger: &[u8], lines: u64) -> Option<Summary>
     ensures { result ≡ survey_of ledger.now lines }
 {
     survey_for(ledger, lines, Sought::Keep)
 }
 
 // Writes one line more.
-pub fn append(ledger: &mut [u8], lines: u64, line: Line) -> LedgerAnswer
+#[tactic(auto, unfolding(crate::specs::Ledger::append_answer, crate::specs::Ledger::append_bytes))]
+pub fn append(ledger: &mut [u8], lines: u64, line: Line) -> Result<u64, Refusal>
     ensures value { result ≡ append_answer ledger.old lines }
     ensures ledger_after { ledger.new ≡ append_bytes ledger.old lines line }
 {
     if (ledger.len() / 16) as u64 <= lines {
-        return LedgerAnswer::Refused(Refusal::LedgerFull);
+        return Err(Refusal::LedgerFull);
     }
     put_line(ledger, lines as usize, line);
-    LedgerAnswer::Accepted { lines: lines + 1 }
+    Ok(lines + 1)
 }
 
 // The keep entry.
-pub fn keep(ledger: &mut [u8], lines: u64, date: Date) -> LedgerAnswer
+pub fn keep(ledger: &mut [u8], lines: u64, date: Date) -> Result<u64, Refusal>
     ensures value { result ≡ keep_answer ledger.old lines date }
     ensures ledger_after { ledger.new ≡ keep_bytes ledger.old lines date }
 {
-    let SurveyAnswer::Surveyed(_) = survey(ledger, lines) else {
-        return LedgerAnswer::Refused(Refusal::LedgerMalformed);
-    };
+    survey(ledger, lines).ok_or(Refusal::LedgerMalformed)?;
     if !calendar::is_date(date) {
-        return LedgerAnswer::Refused(Refusal::NotADate);
+        return Err(Refusal::NotADate);
     }
     let line = Line {
         kind: Kind::Keep,
@@ -483,29 +295,24 @@ pub fn keep(ledger: &mut [u8], lines: u64, date: Date) -> LedgerAnswer
     append(ledger, lines, line)
 }
 
-fn purge_by(day: Date, last: Found) -> PurgeAnswer
+#[tactic(auto, unfolding(crate::specs::Ledger::purge_by))]
+fn purge_by(day: Date, last: Option<Found>) -> Result<(), Refusal>
     ensures { result ≡ purge_by day last }
 {
-    let Found::At { index: _, line } = last else {
-        return PurgeAnswer::Refused(Refusal::NoKeepLine);
-    };
-    let date = line.date;
-    if calendar::is_before(date, day) {
-        return PurgeAnswer::Allowed;
+    let last = last.ok_or(Refusal::NoKeepLine)?;
+    if calendar::is_before(last.line.date, day) {
+        return Ok(());
     }
-    PurgeAnswer::Refused(Refusal::NotYet)
+    Err(Refusal::NotYet)
 }
 
 // The purge question.
-pub fn may_purge(ledger: &[u8], lines: u64, day: Date) -> PurgeAnswer
+pub fn may_purge(ledger: &[u8], lines: u64, day: Date) -> Result<(), Refusal>
     ensures { result ≡ purge_answer ledger.now lines day }
 {
-    let SurveyAnswer::Surveyed(summary) = survey(ledger, lines) else {
-        return PurgeAnswer::Refused(Refusal::LedgerMalformed);
-    };
+    let summary = survey(ledger, lines).ok_or(Refusal::LedgerMalformed)?;
     if !calendar::is_date(day) {
-        return PurgeAnswer::Refused(Refusal::NotADate);
+        return Err(Refusal::NotADate);
     }
-    let last = summary.sought;
-    purge_by(day, last)
+    purge_by(day, summary.sought)
 }

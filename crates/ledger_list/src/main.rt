@@ -2,12 +2,11 @@
 #![tactic(auto)]
 
 use console::Output;
-use listing::ListAnswer;
 use std::io;
 use std::io::Write;
 
 fn show(stdout: &mut Output, ledger: &[u8], out: &mut [u8]) -> io::Result<()> {
-    let ListAnswer::Listed { used } = listing::list(ledger, out) else {
+    let Some(used) = listing::list(ledger, out) else {
         return Ok(());
     };
     let start = out.len() - used;

@@ -4,10 +4,8 @@
 ghost use Rattle.std.specs.Prelude.{◌≡◌};
 ghost use Rattle.ledger_report.specs.Report.{ledger_result, purge_result, day_result, pixel_result, list_result};
 
-use ledger::{LedgerAnswer, PurgeAnswer};
-use listing::ListAnswer;
 use refusal::Refusal;
-use why::{DayAnswer, PixelAnswer};
+use why::{DayAnswer, Numbered};
 
 // refusal is 0 where the call is accepted.
 #[repr(C)]
@@ -33,15 +31,15 @@ pub struct ListResult {
 }
 
 // The number of lines after a call, or the refusal and the number before it.
-pub fn ledger_result(lines: u64, answer: LedgerAnswer) -> LedgerResult
+pub fn ledger_result(lines: u64, answer: Result<u64, Refusal>) -> LedgerResult
     ensures { result ≡ ledger_result lines answer }
 {
     match answer {
-        LedgerAnswer::Accepted { lines: next } => LedgerResult {
+        Ok(next) => LedgerResult {
             refusal: 0,
             lines: next,
         },
-        LedgerAnswer::Refused(r) => LedgerResult {
+        Err(r) => LedgerResult {
             refusal: refusal::number_of(r),
             lines,
         },
@@ -49,29 +47,29 @@ pub fn ledger_result(lines: u64, answer: LedgerAnswer) -> LedgerResult
 }
 
 // 0 where the frame may be purged, or the refusal.
-pub fn purge_result(answer: PurgeAnswer) -> u32
+pub fn purge_result(answer: Result<(), Refusal>) -> u32
     ensures { result ≡ purge_result answer }
 {
     match answer {
-        PurgeAnswer::Allowed => 0,
-        PurgeAnswer::Refused(r) => refusal::number_of(r),
+        Ok(()) => 0,
+        Err(r) => refusal::number_of(r),
     }
 }
 
 // The number of the keep line that decides, with 0 where the frame may be purged and 27 where it may not yet.
-pub fn day_result(answer: DayAnswer) -> WhyResult
+pub fn day_result(answer: Result<DayAnswer, Refusal>) -> WhyResult
     ensures { result ≡ day_result answer }
 {
     match answer {
-        DayAnswer::Allowed(decides) => WhyResult {
+        Ok(DayAnswer::Allowed(decides)) => WhyResult {
             refusal: 0,
             line: decides.number,
         },
-        DayAnswer::NotYet(decides) => WhyResult {
+        Ok(DayAnswer::NotYet(decides)) => WhyResult {
             refusal: refusal::number_of(Refusal::NotYet),
             line: decides.number,
         },
-        DayAnswer::Refused(r) => WhyResult {
+        Err(r) => WhyResult {
             refusal: refusal::number_of(r),
             line: 0,
         },
@@ -79,19 +77,19 @@ pub fn day_result(answer: DayAnswer) -> WhyResult
 }
 
 // The number of the correction that set a pixel.
-pub fn pixel_result(answer: PixelAnswer) -> WhyResult
+pub fn pixel_result(answer: Result<Option<Numbered>, Refusal>) -> WhyResult
     ensures { result ≡ pixel_result answer }
 {
     match answer {
-        PixelAnswer::Corrected(decides) => WhyResult {
+        Ok(Some(decides)) => WhyResult {
             refusal: 0,
             line: decides.number,
         },
-        PixelAnswer::AsOpened => WhyResult {
+        Ok(None) => WhyResult {
             refusal: 0,
             line: 0,
         },
-        PixelAnswer::Refused(r) => WhyResult {
+        Err(r) => WhyResult {
             refusal: refusal::number_of(r),
             line: 0,
         },
@@ -99,15 +97,15 @@ pub fn pixel_result(answer: PixelAnswer) -> WhyResult
 }
 
 // The length of a listing, or that the buffer is too short.
-pub fn list_result(answer: ListAnswer) -> ListResult
+pub fn list_result(answer: Option<usize>) -> ListResult
     ensures { result ≡ list_result answer }
 {
     match answer {
-        ListAnswer::Listed { used } => ListResult {
+        Some(used) => ListResult {
             short: 0,
             length: used as u64,
         },
-        ListAnswer::TooShort => ListResult {
+        None => ListResult {
             short: 1,
             length: 0,
         },

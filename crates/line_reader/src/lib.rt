@@ -5,7 +5,7 @@
 ghost use Rattle.std.specs.Prelude.{◌≡◌};
 ghost use Rattle.field.specs.Fields.{field_from, number_field};
 
-use field::{Cursor, Field, NumberField};
+use field::{Cursor, Field};
 
 #[derive(Clone, Copy)]
 pub struct LineReader<'a> {
@@ -14,13 +14,13 @@ pub struct LineReader<'a> {
 }
 
 // The work, on a slice and a number: the cursor's own functions.
-fn field_from(line: &[u8], at: usize) -> Field
+fn field_from(line: &[u8], at: usize) -> Option<Field>
     ensures { result ≡ field_from line.now at }
 {
     Cursor { at }.field(line)
 }
 
-fn number_from(line: &[u8], at: usize) -> NumberField
+fn number_from(line: &[u8], at: usize) -> Option<(u32, Cursor)>
     ensures { result ≡ number_field line.now at }
 {
     Cursor { at }.number(line)
@@ -35,14 +35,14 @@ impl<'a> LineReader<'a> {
     }
 
     // The next field, with the cursor behind it.
-    pub fn next_field(self) -> Field
+    pub fn next_field(self) -> Option<Field>
         ensures { result ≡ field_from self.entry.line.now self.entry.at }
     {
         field_from(self.line, self.at)
     }
 
     // The next field as a number, with the cursor behind it.
-    pub fn next_number(self) -> NumberField
+    pub fn next_number(self) -> Option<(u32, Cursor)>
         ensures { result ≡ number_field self.entry.line.now self.entry.at }
     {
         number_from(self.line, self.at)
@@ -50,13 +50,13 @@ impl<'a> LineReader<'a> {
 }
 
 // What stands next in a line, from the place at on. The parameters are plain.
-pub fn field_at(line: &[u8], at: usize) -> Field
+pub fn field_at(line: &[u8], at: usize) -> Option<Field>
     ensures { result ≡ field_from line.now at }
 {
     LineReader::new(line, at).next_field()
 }
 
-pub fn number_at(line: &[u8], at: usize) -> NumberField
+pub fn number_at(line: &[u8], at: usize) -> Option<(u32, Cursor)>
     ensures { result ≡ number_field line.now at }
 {
     LineReader::new(line, at).next_number()

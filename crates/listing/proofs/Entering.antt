@@ -1,5 +1,6 @@
 -- The lines of a listing, written from the last to the first.
 -- Assumes nothing.
+use Rattle.std.specs.Prelude.{None, Some}
 use mathlib.Core.Path.{◌≡◌, refl, sym, ap, ◌∙◌, subst}
 use mathlib.Core.Bool.{Bool, true, false, not, ◌&&◌}
 use mathlib.Core.List.{List, ◌∷◌, ◌++◌}
@@ -10,7 +11,6 @@ use lib.ListN.{length, drop}
 use borrow.Author.Tests.{lt-ltb}
 use Rattle.lists.specs.Bytes.{big}
 use Rattle.ledger.specs.declared.Line.{Line}
-use Rattle.ledger.specs.declared.LineAnswer.TheVariants.{WellFormed, Malformed}
 use Rattle.ledger.specs.Lines.{fields_of, line_of, bytes_at, lines_of, some_malformed}
 use Rattle.ledger.specs.Standing.{withdraws, cancelled}
 use Rattle.ledger.proofs.StandingLaws.{depth, cancelled-is, depth_small}
@@ -38,7 +38,7 @@ unfolding lines_text
 lines_cons number l ls = refl
 
 -- none of the lines is malformed
-pub well-at : (t : List ℕ) (n j : ℕ) → j < n → some_malformed n t ≡ false → line_of (bytes_at t j) ≡ Malformed → ⊥
+pub well-at : (t : List ℕ) (n j : ℕ) → j < n → some_malformed n t ≡ false → line_of (bytes_at t j) ≡ None → ⊥
 well-at t n j h w m =
     let b : some_malformed (n - j) (drop (j * 16) t) ≡ true = malformed-from t n j h ∙ rw m in
     let c : some_malformed n t ≡ true = malformed-later t n j (omega arith) b in
@@ -64,7 +64,7 @@ module _ {t : List ℕ} {n i skip : ℕ} {b : List ℕ} {at : ℕ} {c : List ℕ
       let ls = lines_of (n - i) (drop (i * 16) t) in
       omega (arith, f.deep, f.upto, depth_small ls, length-lines (n - i) (drop (i * 16) t))
 
-  pub entering-more : (j : ℕ) (l : Line) (s : Step) (c' : List ℕ) (place' : ℕ) → i ≡ suc j → line_of (bytes_at t j) ≡ WellFormed l → s ≡ step_back skip l
+  pub entering-more : (j : ℕ) (l : Line) (s : Step) (c' : List ℕ) (place' : ℕ) → i ≡ suc j → line_of (bytes_at t j) ≡ Some l → s ≡ step_back skip l
       → Wrote c place c' place' (line_text (j + 1) l s.cancelled) → Entering t n j s.skip b at c' place'
   entering-more j l s c' place' e m q w =
       let h : j < n = omega (arith, f.upto) in

@@ -9,7 +9,7 @@ use lib.ListN.{length, length-append}
 use lib.Seq.{drop-length}
 use lib.Dec.{eqb, leb, ltb}
 use borrow.Author.Tests.{lt-ltb, le-ltb, lt-leb, le-leb, eq-eqb, ne_eqb, ltb-false}
-use Rattle.std.specs.Prelude.{if◌then◌else◌}
+use Rattle.std.specs.Prelude.{if◌then◌else◌, None, Some}
 use Rattle.ledger.specs.declared.Line.{Line}
 use Rattle.ledger.specs.Lines.{lines_of}
 use Rattle.ledger.specs.Standing.{withdraws, cancelled, standing}
@@ -18,25 +18,24 @@ use Rattle.ledger.specs.declared.Summary.{Summary}
 use Rattle.ledger.specs.Ledger.{capacity, ledger_malformed, summary_for}
 use Rattle.ledger.proofs.StandingLaws.{standing-small}
 use Rattle.ledger.proofs.Scanning.{length-lines, Sound}
-use Rattle.listing.specs.declared.ListAnswer.TheVariants.{Listed, TooShort}
 use Rattle.listing.specs.Writing.{Wrote}
 use Rattle.listing.specs.Listing.{lines_text, standing_text, refused_text, is_listed, lines_listed, listing_text, listing_room, shown_answer, shown_bytes, list_answer, list_bytes}
 use Rattle.listing.proofs.Lengths.{length-line, length-standing}
 use Rattle.listing.proofs.Entering.{lines_cons}
 
-pub not-shown : (b : List ℕ) (needed : ℕ) (text : List ℕ) → length b < needed → (TooShort ≡ shown_answer (length b) needed text) × (b ≡ shown_bytes b needed text)
+pub not-shown : (b : List ℕ) (needed : ℕ) (text : List ℕ) → length b < needed → (None ≡ shown_answer (length b) needed text) × (b ≡ shown_bytes b needed text)
 unfolding shown_answer shown_bytes
 not-shown b needed text h = (rw (lt-ltb _ _ h), rw (lt-ltb _ _ h))
 
 pub shown : {b : List ℕ} {c : List ℕ} {start : ℕ} {text : List ℕ} (needed : ℕ) → Wrote b (length b) c start text → needed ≤ length b
-    → (Listed (length b - start) ≡ shown_answer (length b) needed text) × (c ≡ shown_bytes b needed text)
+    → (Some (length b - start) ≡ shown_answer (length b) needed text) × (c ≡ shown_bytes b needed text)
 unfolding shown_answer shown_bytes
 shown {b} {c} {start} {text} needed f h =
     let e : length b - start ≡ length text = omega (arith, f.place) in
     let k : start ≡ length b - length text = omega (arith, f.place) in
     (rw (le-ltb _ _ h, e), rw (le-ltb _ _ h, ← k) (f.bytes ∙ rw (drop-length b, append-nil text)))
 
-shown-is : (lent needed : ℕ) (text : List ℕ) → shown_answer lent needed text ≡ if◌then◌else◌ (ltb lent needed) TooShort (Listed (length text))
+shown-is : (lent needed : ℕ) (text : List ℕ) → shown_answer lent needed text ≡ if◌then◌else◌ (ltb lent needed) None (Some (length text))
 unfolding shown_answer
 shown-is lent needed text = refl
 
@@ -116,10 +115,10 @@ text-fits t = rw (text-is, room-is) (go (is_listed t))
     go false = omega arith
 
 -- a listing that is given lies within the buffer
-pub used-fits : (t : List ℕ) (lent used : ℕ) → Listed used ≡ list_answer t lent → used ≤ lent
+pub used-fits : (t : List ℕ) (lent used : ℕ) → Some used ≡ list_answer t lent → used ≤ lent
 used-fits t lent used e = go (ltb lent (listing_room t)) refl (e ∙ answer-is t lent ∙ shown-is lent (listing_room t) (listing_text t))
   where
-    go : (b : Bool) → ltb lent (listing_room t) ≡ b → Listed used ≡ if◌then◌else◌ b TooShort (Listed (length (listing_text t))) → used ≤ lent
+    go : (b : Bool) → ltb lent (listing_room t) ≡ b → Some used ≡ if◌then◌else◌ b None (Some (length (listing_text t))) → used ≤ lent
     go true q w = let z : ◌≡◌ {A = ℕ} 0 1 = cc in absurd (omega arith)
     go false q w =
         let u : used ≡ length (listing_text t) = cc in

@@ -7,7 +7,7 @@ use Prim.Native.Nat.{ℕ, zero, suc, ◌+◌, ◌-◌, ◌/◌, ◌%◌, ◌≤�
 use native.Mathlib.Omega.{arith}
 use native.Mathlib.Numerals.{add-one}
 use lib.ListN.{length, take, drop, set, length-append, length-drop, take-append-drop}
-use lib.Seq.{take-take, take_at, drop_at, length-take-le, set_split, append_snoc}
+use lib.Seq.{drop-length, take-take, take_at, drop_at, length-take-le, set_split, append_snoc}
 use lib.Dec.{ltb}
 use borrow.Author.Tests.{lt-ltb, le-ltb}
 use Rattle.std.specs.Prelude.{if◌then◌else◌}
@@ -43,6 +43,23 @@ module _ {b : List ℕ} {at : ℕ} {c : List ℕ} {p : ℕ} {s : List ℕ} (f : 
         let e : take q c ≡ take q b = sym (take-take q p c (omega (arith, g.place))) ∙ ap (take q) front ∙ take-take q p b (omega (arith, g.place)) in
         g.bytes ∙ rw (e, back, append_assoc);
   }
+
+  -- written into what is before it
+  pub before-length : length (take p c) ≡ p
+  before-length = length-take-le p c (omega (arith, wrote-length, f.room, f.place))
+
+  pub widened : {d : List ℕ} {q : ℕ} {r : List ℕ} → Wrote (take p c) (length (take p c)) d q r → Wrote c p (d ++ drop p c) q r
+  widened {d} {q} {r} g = record {
+    room = omega (arith, wrote-length, f.room, f.place);
+    place = g.place ∙ before-length;
+    bytes =
+        let e : take q (take p c) ≡ take q c = take-take q p c (omega (arith, g.place, before-length)) in
+        let n : drop (length (take p c)) (take p c) ≡ [] = drop-length (take p c) in
+        rw (g.bytes, e, n, append-nil, append_assoc);
+  }
+
+  pub wrote-before : {d : List ℕ} {q : ℕ} {r : List ℕ} → Wrote (take p c) (length (take p c)) d q r → Wrote b at (d ++ drop p c) q (r ++ s)
+  wrote-before g = wrote_then (widened g)
 
   pub wrote-byte : (v q : ℕ) → p ≡ suc q → Wrote b at (set c q v) q (v ∷ s)
   wrote-byte v q e =

@@ -1,5 +1,5 @@
 -- Document 01, "Trials on both sides": the text that the listing program prints for a ledger.
-use Rattle.std.specs.Prelude.{ℕ, zero, suc, ◌+◌, ◌-◌, ◌*◌, ◌/◌, ◌%◌, Bool, true, false, not, ◌&&◌, List, [], ◌∷◌, ◌++◌, length, take, eqb, leb, ltb, if◌then◌else◌}
+use Rattle.std.specs.Prelude.{ℕ, zero, suc, ◌+◌, ◌-◌, ◌*◌, ◌/◌, ◌%◌, Bool, true, false, not, ◌&&◌, List, [], ◌∷◌, ◌++◌, length, take, eqb, leb, ltb, if◌then◌else◌, None, Option, Some}
 use Rattle.lists.specs.Text.{codes}
 use Rattle.lists.specs.Digits.{digits_up_to, decimal}
 use Rattle.calendar.specs.declared.Date.{Date}
@@ -10,8 +10,6 @@ use Rattle.ledger.specs.Lines.{lines_of}
 use Rattle.ledger.specs.Standing.{withdraws, cancelled, standing}
 use Rattle.ledger.specs.Ledger.{capacity, ledger_malformed}
 use Rattle.listing.specs.declared.Step.{Step}
-use Rattle.listing.specs.declared.ListAnswer.{ListAnswer}
-use Rattle.listing.specs.declared.ListAnswer.TheVariants.{Listed, TooShort}
 
 -- k digits of n, zeros at the left where it has fewer
 unfoldable pub digits : ℕ → ℕ → List ℕ
@@ -76,13 +74,13 @@ unfolding is_listed
 listing_room t = if is_listed t then 32 + capacity t * 80 else 32
 
 -- the answer, and the buffer afterwards: the text stands at its end
-unfoldable pub shown_answer : ℕ → ℕ → List ℕ → ListAnswer
-shown_answer lent needed text = if ltb lent needed then TooShort else Listed (length text)
+unfoldable pub shown_answer : ℕ → ℕ → List ℕ → Option ℕ
+shown_answer lent needed text = if ltb lent needed then None else Some (length text)
 
 unfoldable pub shown_bytes : List ℕ → ℕ → List ℕ → List ℕ
 shown_bytes out needed text = if ltb (length out) needed then out else take (length out - length text) out ++ text
 
-unfoldable pub list_answer : List ℕ → ℕ → ListAnswer
+unfoldable pub list_answer : List ℕ → ℕ → Option ℕ
 unfolding shown_answer listing_room listing_text
 list_answer t lent = shown_answer lent (listing_room t) (listing_text t)
 

@@ -2,96 +2,72 @@
 #![tactic(auto)]
 
 use console::Output;
-use listing::ListAnswer;
 use std::io;
 use std::io::Write;
 
 // The text, or its last 80 bytes.
 fn print_end(stdout: &mut Output, text: &[u8]) -> io::Result<()> {
-    if text.len() <= 80 {
-        stdout.write_all(text)?;
-        return Ok(());
+    let Some(end) = text.last_chunk::<80>() else {
+        return stdout.write_all(text);
+    };
+    if 80 < text.len() {
+        stdout.write_all(b"..")?;
     }
-    let start = text.len() - 80;
-    stdout.write_all(b"..")?;
-    stdout.write_all(&text[start..])
+    stdout.write_all(end)
 }
 
-fn show(stdout: &mut Output, label: &[u8], ledger: &[u8], out: &mut [u8]) -> io::Result<()> {
-    stdout.write_all(label)?;
-    let ListAnswer::Listed { used } = listing::list(ledger, out) else {
-        stdout.write_all(b": too short\n")?;
-        return Ok(());
+fn show(stdout: &mut Output, label: &str, ledger: &[u8], out: &mut [u8]) -> io::Result<()> {
+    let Some(used) = listing::list(ledger, out) else {
+        return writeln!(stdout, "{label}: too short");
     };
-    stdout.write_all(b": ")?;
-    console::print_decimal(stdout, used as u64)?;
-    stdout.write_all(b" bytes\n")?;
+    writeln!(stdout, "{label}: {used} bytes")?;
     let start = out.len() - used;
     print_end(stdout, &out[start..])
 }
 
 // Makes each line from a withdrawal. (Zeros are a correction of pixel 0 from 0 to 0.)
 fn withdraw_from(ledger: &mut [u8], from: usize) {
-    let mut at = from;
-    while at < ledger.len() {
-        ledger[at] = 0x80;
-        if ledger.len() - at <= 16 {
-            return;
-        }
-        at += 16;
+    for kind in ledger.iter_mut().skip(from).step_by(16) {
+        *kind = 0x80;
     }
 }
 
-fn short(stdout: &mut Output, out: &mut [u8]) -> io::Result<()> {
-    show(stdout, b"no input", b"", out)?;
-    show(stdout, b"one byte", b"\x00", out)?;
-    show(
-        stdout,
-        b"a line and a byte",
+const SHORT: [(&str, &[u8]); 5] = [
+    ("no input", b""),
+    ("one byte", b"\x00"),
+    (
+        "a line and a byte",
         b"\x00\x00\x00\x00\x00\x00\x00\x00\x00\x00\x00\x00\x00\x00\x00\x00\x00",
-        out,
-    )?;
-    show(
-        stdout,
-        b"keep, withdrawal",
+    ),
+    (
+        "keep, withdrawal",
         b"\x5f\xbe\xc4\x00\x00\x00\x00\x00\x00\x00\x00\x00\x00\x00\x00\x00\x80\x00\x00\x00\x00\x00\x00\x00\x00\x00\x00\x00\x00\x00\x00\x00",
-        out,
-    )?;
-    show(
-        stdout,
-        b"withdrawal alone",
+    ),
+    (
+        "withdrawal alone",
         b"\x80\x00\x00\x00\x00\x00\x00\x00\x00\x00\x00\x00\x00\x00\x00\x00",
-        out,
-    )
-}
+    ),
+];
 
-// The first bytes of a ledger.
-fn first(
-    stdout: &mut Output,
-    label: &[u8],
-    ledger: &[u8],
-    end: usize,
-    out: &mut [u8],
-) -> io::Result<()> {
-    if end <= ledger.len() {
-        show(stdout, label, &ledger[..end], out)?;
+fn short(stdout: &mut Output, out: &mut [u8]) -> io::Result<()> {
+    for (label, ledger) in &SHORT {
+        show(stdout, label, ledger, out)?;
     }
     Ok(())
 }
 
-fn long(stdout: &mut Output, ledger: &mut [u8], out: &mut [u8]) -> io::Result<()> {
-    first(stdout, b"4,096 lines", ledger, 65536, out)?;
-    first(stdout, b"4,096 lines and a byte", ledger, 65537, out)?;
-    first(stdout, b"4,097 lines", ledger, 65552, out)?;
-    withdraw_from(ledger, 32768);
-    first(
+fn long(stdout: &mut Output, ledger: &mut [u8; 65552], out: &mut [u8]) -> io::Result<()> {
+    show(stdout, "4,096 lines", &ledger[..65536], out)?;
+    show(stdout, "4,096 lines and a byte", &ledger[..65537], out)?;
+    show(stdout, "4,097 lines", &ledger[..], out)?;
+    withdraw_from(&mut ledger[..], 32768);
+    show(
         stdout,
-        b"2,048 corrections and as many withdrawals",
-        ledger,
-        65536,
+        "2,048 corrections and as many withdrawals",
+        &ledger[..65536],
         out,
     )?;
-    first(stdout, b"the last of them gone", ledger, 65520, out)
+    show(stdout, "the last of them gone", &ledger[..65520], out)
 }
 
 fn main(rt: HostRuntime) -> io::Result<()> {
@@ -100,21 +76,10 @@ fn main(rt: HostRuntime) -> io::Result<()> {
     let mut out = [0u8; 327712];
     short(&mut stdout, &mut out)?;
     long(&mut stdout, &mut ledger, &mut out)?;
+    let line = [0u8; 16];
     let mut small = [0u8; 111];
-    first(
-        &mut stdout,
-        b"one line, 111 bytes lent",
-        &ledger,
-        16,
-        &mut small,
-    )?;
+    show(&mut stdout, "one line, 111 bytes lent", &line, &mut small)?;
     let mut enough = [0u8; 112];
-    first(
-        &mut stdout,
-        b"one line, 112 bytes lent",
-        &ledger,
-        16,
-        &mut enough,
-    )?;
+    show(&mut stdout, "one line, 112 bytes lent", &line, &mut enough)?;
     stdout.flush()
 }

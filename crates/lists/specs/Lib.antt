@@ -3,3 +3,4 @@ pub mod Bytes
 pub mod Digits
 pub mod Parts
 pub mod Only
+pub mod Chain

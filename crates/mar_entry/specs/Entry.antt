@@ -1,16 +1,14 @@
 -- Request A2 and source document 003: one of the 25 entries of a mar header record.
-use Rattle.std.specs.Prelude.{ℕ, ◌&&◌, List, leb, ltb, if◌then◌else◌}
+use Rattle.lists.specs.Chain.{on_ok}
+use Rattle.refusal.specs.declared.Refusal.{Refusal}
+use Rattle.std.specs.Prelude.{ℕ, ◌&&◌, List, leb, ltb, if◌then◌else◌, Err, Ok, Result}
 use Rattle.std.specs.Float.{binary32}
 use Rattle.std.specs.Float.Ieee.{of_bits}
 use Rattle.refusal.specs.declared.Refusal.TheVariants as R
 use Rattle.byte_order.specs.declared.ByteOrder.{ByteOrder}
-use Rattle.mar_header.specs.declared.MarHeaderAnswer.{MarHeaderAnswer}
-use Rattle.mar_header.specs.declared.MarHeaderAnswer.TheVariants as H
 use Rattle.mar_header.specs.MarHeader.{header_number, mar_header}
 use Rattle.mar_entry.specs.declared.EntryValue.{EntryValue}
 use Rattle.mar_entry.specs.declared.EntryValue.TheVariants as EV
-use Rattle.mar_entry.specs.declared.MarEntryAnswer.{MarEntryAnswer}
-use Rattle.mar_entry.specs.declared.MarEntryAnswer.TheVariants as A
 
 -- a float with its bits as stored; every NaN pattern has the one value `nan`
 abbrev pub float_of : ℕ → EntryValue
@@ -21,16 +19,12 @@ unfoldable pub value_of : ℕ → ℕ → EntryValue
 value_of entry bits = if leb entry 10 then EV.Whole bits else float_of bits
 
 -- 37 for an entry outside 1 to 25
-unfoldable pub entry_in : List ℕ → ByteOrder → ℕ → MarEntryAnswer
+unfoldable pub entry_in : List ℕ → ByteOrder → ℕ → Result EntryValue Refusal
 unfolding value_of
 entry_in bytes o entry =
-    if ltb 0 entry && leb entry 25 then A.Value (value_of entry (header_number o entry bytes)) else
-    A.Refused R.NoSuchEntry
+    if ltb 0 entry && leb entry 25 then Ok (value_of entry (header_number o entry bytes)) else
+    Err R.NoSuchEntry
 
 -- 28, 1, 29, then 37
-abbrev pub entry_by : List ℕ → ℕ → MarHeaderAnswer → MarEntryAnswer
-entry_by bytes entry (H.Accepted h) = entry_in bytes h.order entry
-entry_by bytes entry (H.Refused r) = A.Refused r
-
-unfoldable pub entry_of : List ℕ → ℕ → MarEntryAnswer
-entry_of bytes entry = entry_by bytes entry (mar_header bytes)
+unfoldable pub entry_of : List ℕ → ℕ → Result EntryValue Refusal
+entry_of bytes entry = on_ok (mar_header bytes) Err (λ h. entry_in bytes h.order entry)

@@ -7,7 +7,6 @@ ghost use Rattle.std.specs.Float.Ieee.{of_bits};
 ghost use Rattle.mar_entry.specs.Entry.{value_of, entry_in, entry_of};
 
 use byte_order::ByteOrder;
-use mar_header::MarHeaderAnswer;
 use refusal::Refusal;
 
 // An unsigned number, or a single-precision float with its bits as stored.
@@ -15,12 +14,6 @@ use refusal::Refusal;
 pub enum EntryValue {
     Whole(u32),
     Float { bits: u32, value: f32 },
-}
-
-#[derive(Clone, Copy)]
-pub enum MarEntryAnswer {
-    Value(EntryValue),
-    Refused(Refusal),
 }
 
 // The float of a bit pattern. The language makes none of a NaN's pattern, so that one is computed.
@@ -33,6 +26,7 @@ fn float_of_bits(bits: u32) -> f32
     f32::from_bits(bits)
 }
 
+#[tactic(auto, unfolding(crate::specs::Entry::value_of))]
 fn value_of(entry: u32, bits: u32) -> EntryValue
     ensures { result ≡ value_of entry bits }
 {
@@ -47,29 +41,22 @@ fn value_of(entry: u32, bits: u32) -> EntryValue
 }
 
 // An entry behind an accepted header.
-fn entry_in(file: &[u8], order: ByteOrder, entry: u32) -> MarEntryAnswer
+#[tactic(auto, unfolding(crate::specs::Entry::entry_in))]
+fn entry_in(file: &[u8], order: ByteOrder, entry: u32) -> Result<EntryValue, Refusal>
     ensures { result ≡ entry_in file.now order entry }
 {
-    if entry == 0 {
-        return MarEntryAnswer::Refused(Refusal::NoSuchEntry);
+    if entry == 0 || 25 < entry {
+        return Err(Refusal::NoSuchEntry);
     }
-    if 25 < entry {
-        return MarEntryAnswer::Refused(Refusal::NoSuchEntry);
-    }
-    let k = entry as usize - 1;
-    let bits = byte_order::number_at(file, order, k);
-    MarEntryAnswer::Value(value_of(entry, bits))
+    let bits = byte_order::number_at(file, order, entry as usize - 1);
+    Ok(value_of(entry, bits))
 }
 
 // Entry 1 to 25 of a file's header record, or refusal 28, 1, 29 or 37.
-pub fn read_entry(file: &[u8], entry: u32) -> MarEntryAnswer
+#[tactic(auto, unfolding(crate::specs::Entry::entry_of))]
+pub fn read_entry(file: &[u8], entry: u32) -> Result<EntryValue, Refusal>
     ensures { result ≡ entry_of file.now entry }
 {
-    match mar_header::read_header(file) {
-        MarHeaderAnswer::Accepted(h) => {
-            let order = h.order;
-            entry_in(file, order, entry)
-        }
-        MarHeaderAnswer::Refused(r) => MarEntryAnswer::Refused(r),
-    }
+    let header = mar_header::read_header(file)?;
+    entry_in(file, header.order, entry)
 }

@@ -1,20 +1,18 @@
 -- Request A2 and source document 003: the sizes of a mar image plate.
-use Rattle.std.specs.Prelude.{ℕ, ◌+◌, ◌-◌, ◌*◌, ◌/◌, eqb, if◌then◌else◌}
+use Rattle.std.specs.Prelude.{ℕ, ◌+◌, ◌-◌, ◌*◌, ◌/◌, eqb, if◌then◌else◌, None, Option, Some}
 use Rattle.mar_header.specs.declared.Side.{Side}
 use Rattle.mar_header.specs.declared.Side.TheVariants as S
-use Rattle.mar_header.specs.declared.SideAnswer.{SideAnswer}
-use Rattle.mar_header.specs.declared.SideAnswer.TheVariants as SA
 
 -- images are 1200 or 2000 square
 abbrev pub side_pixels : Side → ℕ
 side_pixels S.Small = 1200
 side_pixels S.Large = 2000
 
-unfoldable pub side_from : ℕ → SideAnswer
+unfoldable pub side_from : ℕ → Option Side
 side_from n =
-    if eqb n 1200 then SA.Listed S.Small else
-    if eqb n 2000 then SA.Listed S.Large else
-    SA.Unlisted
+    if eqb n 1200 then Some S.Small else
+    if eqb n 2000 then Some S.Large else
+    None
 
 -- N, the number of pixels
 abbrev pub plate_pixel_count : Side → ℕ

@@ -15,17 +15,11 @@ pub enum Side {
     Large,
 }
 
-#[derive(Clone, Copy)]
-pub enum SideAnswer {
-    Listed(Side),
-    Unlisted,
-}
-
 // What the first number says.
 #[derive(Clone, Copy)]
-pub enum Start {
-    Plate { order: ByteOrder, side: Side },
-    Unknown,
+pub struct Start {
+    pub order: ByteOrder,
+    pub side: Side,
 }
 
 #[derive(Clone, Copy)]
@@ -33,12 +27,6 @@ pub struct MarHeader {
     pub order: ByteOrder,
     pub side: Side,
     pub pairs: u32,
-}
-
-#[derive(Clone, Copy)]
-pub enum MarHeaderAnswer {
-    Accepted(MarHeader),
-    Refused(Refusal),
 }
 
 pub fn side_pixels(s: Side) -> u32
@@ -50,14 +38,15 @@ pub fn side_pixels(s: Side) -> u32
     }
 }
 
-// The size that a first number names.
-pub fn side_from(n: u32) -> SideAnswer
+// The size that a first number names. An Option: the error type of a TryFrom would say no more.
+#[tactic(auto, unfolding(crate::specs::Plate::side_from))]
+pub fn side_from(n: u32) -> Option<Side>
     ensures { result ≡ side_from n }
 {
     match n {
-        1200 => SideAnswer::Listed(Side::Small),
-        2000 => SideAnswer::Listed(Side::Large),
-        _ => SideAnswer::Unlisted,
+        1200 => Some(Side::Small),
+        2000 => Some(Side::Large),
+        _ => None,
     }
 }
 
@@ -65,33 +54,31 @@ pub fn side_from(n: u32) -> SideAnswer
 pub fn records_for(s: Side, n: u32) -> u32
     ensures { result ≡ records_for s n }
 {
-    let each = side_pixels(s) as u64 / 4;
-    ((n as u64 + (each - 1)) / each) as u32
+    n.div_ceil(side_pixels(s) / 4)
 }
 
-fn start_by(little: SideAnswer, big: SideAnswer) -> Start
+fn start_by(little: Option<Side>, big: Option<Side>) -> Option<Start>
     ensures { result ≡ start_by little big }
 {
-    match little {
-        SideAnswer::Listed(side) => Start::Plate {
+    match (little, big) {
+        (Some(side), _) => Some(Start {
             order: ByteOrder::Little,
             side,
-        },
-        SideAnswer::Unlisted => match big {
-            SideAnswer::Listed(side) => Start::Plate {
-                order: ByteOrder::Big,
-                side,
-            },
-            SideAnswer::Unlisted => Start::Unknown,
-        },
+        }),
+        (None, Some(side)) => Some(Start {
+            order: ByteOrder::Big,
+            side,
+        }),
+        (None, None) => None,
     }
 }
 
-fn start_of(file: &[u8]) -> Start
+#[tactic(auto, unfolding(crate::specs::MarHeader::start_of))]
+fn start_of(file: &[u8]) -> Option<Start>
     ensures { result ≡ start_of file.now }
 {
     if file.len() < 4 {
-        return Start::Unknown;
+        return None;
     }
     let little = byte_order::number_at(file, ByteOrder::Little, 0);
     let big = byte_order::number_at(file, ByteOrder::Big, 0);
@@ -99,18 +86,15 @@ fn start_of(file: &[u8]) -> Start
 }
 
 // Whether the second, third and sixth number follow from the first and the fifth.
+#[tactic(auto, unfolding(crate::specs::MarHeader::consistent))]
 fn is_consistent(file: &[u8], order: ByteOrder, side: Side) -> bool
     ensures { result ≡ consistent order side file.now }
 {
     let pixels = side_pixels(side);
-    if byte_order::number_at(file, order, 1) != pixels {
-        return false;
-    }
-    if byte_order::number_at(file, order, 2) != pixels * 2 {
-        return false;
-    }
     let pairs = byte_order::number_at(file, order, 4);
-    byte_order::number_at(file, order, 5) == records_for(side, pairs)
+    byte_order::number_at(file, order, 1) == pixels
+        && byte_order::number_at(file, order, 2) == pixels * 2
+        && byte_order::number_at(file, order, 5) == records_for(side, pairs)
 }
 
 fn header_at(file: &[u8], order: ByteOrder, side: Side) -> MarHeader
@@ -124,19 +108,17 @@ fn header_at(file: &[u8], order: ByteOrder, side: Side) -> MarHeader
 }
 
 // The numbers of an accepted header, or refusal 28, 1 or 29.
-pub fn read_header(file: &[u8]) -> MarHeaderAnswer
+#[tactic(auto, unfolding(crate::specs::MarHeader::mar_header, crate::specs::MarHeader::header_by))]
+pub fn read_header(file: &[u8]) -> Result<MarHeader, Refusal>
     ensures { result ≡ mar_header file.now }
 {
-    let Start::Plate { order, side } = start_of(file) else {
-        return MarHeaderAnswer::Refused(Refusal::BadPlateSize);
-    };
+    let Start { order, side } = start_of(file).ok_or(Refusal::BadPlateSize)?;
     let record = side_pixels(side) as usize * 2;
     if file.len() < record {
-        return MarHeaderAnswer::Refused(Refusal::HeaderTruncated);
-    }
-    if is_consistent(file, order, side) {
-        MarHeaderAnswer::Accepted(header_at(file, order, side))
+        Err(Refusal::HeaderTruncated)
+    } else if is_consistent(file, order, side) {
+        Ok(header_at(file, order, side))
     } else {
-        MarHeaderAnswer::Refused(Refusal::PlateMismatch)
+        Err(Refusal::PlateMismatch)
     }
 }

@@ -1,5 +1,8 @@
 -- The ways through a plate: refusals 10 and 11, and the parts that the filling is lent.
 -- Assumes nothing.
+use Rattle.layout.specs.declared.Frame.{Frame}
+use Rattle.std.specs.Prelude.{Result, Err}
+use Rattle.refusal.specs.declared.Refusal.{Refusal}
 use mathlib.Core.Path.{◌≡◌, refl, ◌∙◌}
 use mathlib.Core.List.{List, ◌++◌}
 use Prim.Native.Nat.{ℕ, zero, suc, ◌+◌, ◌-◌, ◌*◌, ◌≤◌, ◌<◌}
@@ -9,16 +12,13 @@ use lib.Seq.{length-take-le}
 use borrow.Author.Tests.{lt-ltb, le-ltb}
 use Rattle.lists.proofs.Parts.{drop-take}
 use Rattle.refusal.specs.declared.Refusal.TheVariants as R
-use Rattle.marks.specs.declared.Checked.{Checked}
 use Rattle.byte_order.specs.declared.ByteOrder.{ByteOrder}
 use Rattle.byte_order.specs.Numbers.{numbers}
 use Rattle.byte_order.proofs.Laws.{numbers-take, number-at-take}
 use Rattle.mar_header.specs.declared.Side.{Side}
 use Rattle.mar_header.specs.declared.Side.TheVariants as S
 use Rattle.mar_header.specs.declared.MarHeader.{MarHeader}
-use Rattle.mar_header.specs.Plate.{plate_pixel_count, record_bytes, records_for}
-use Rattle.mar_image.specs.declared.MarAnswer.{MarAnswer}
-use Rattle.mar_image.specs.declared.MarAnswer.TheVariants as A
+use Rattle.mar_header.specs.Plate.{side_pixels, plate_pixel_count, record_bytes, records_for}
 use Rattle.mar_image.specs.Pairs.{pair_at, pair_entries}
 use Rattle.mar_image.specs.MarImage.{image_start, image_end, plate_end, stored_image, stored_pairs, checked_pairs, plate_pixels, answer_by, image_answer, image_pixels}
 
@@ -43,11 +43,11 @@ records-le S.Small r = omega arith
 records-le S.Large r = omega arith
 
 module _ (bytes px : List ℕ) (h : MarHeader) where
-  pub short : length px < plate_pixel_count h.side → (A.Refused R.PixelArrayShort ≡ image_answer bytes h (length px)) × (px ≡ image_pixels bytes h px)
+  pub short : length px < plate_pixel_count h.side → (Err R.PixelArrayShort ≡ image_answer bytes h (length px)) × (px ≡ image_pixels bytes h px)
   unfolding image_answer image_pixels
   short l = (rw (lt-ltb _ _ l), rw (lt-ltb _ _ l))
 
-  pub truncated : plate_pixel_count h.side ≤ length px → length bytes < plate_end h → (A.Refused R.DataTruncated ≡ image_answer bytes h (length px)) × (px ≡ image_pixels bytes h px)
+  pub truncated : plate_pixel_count h.side ≤ length px → length bytes < plate_end h → (Err R.DataTruncated ≡ image_answer bytes h (length px)) × (px ≡ image_pixels bytes h px)
   unfolding image_answer image_pixels
   truncated l k = (rw (le-ltb _ _ l, lt-ltb _ _ k), rw (le-ltb _ _ l, lt-ltb _ _ k))
 
@@ -70,7 +70,7 @@ module _ (bytes px : List ℕ) (h : MarHeader) where
         let o : length (take (e - t) (drop t bytes)) ≡ e - t = length-take-le _ _ (simp length-drop (omega arith)) in
         (rw (length-take-le m px room, l) (omega arith), rw o (omega (arith, records-room h.side h.pairs)))
 
-    pub framed : (checked : Checked) (out : List ℕ) (r : MarAnswer)
+    pub framed : (checked : Result (Unit {0}) Refusal) (out : List ℕ) (r : Result Frame Refusal)
         → (checked ≡ checked_pairs (numbers h.order 2 (length (take m px)) (take (t - a) (drop a bytes))) (pair_entries h.order h.pairs (take (e - t) (drop t bytes))))
         × (out ≡ plate_pixels (numbers h.order 2 (length (take m px)) (take (t - a) (drop a bytes))) (pair_entries h.order h.pairs (take (e - t) (drop t bytes))))
         → r ≡ answer_by h.side e checked
@@ -80,3 +80,21 @@ module _ (bytes px : List ℕ) (h : MarHeader) where
         let l : plate_pixel_count h.side ≤ length px = rw pm at room in
         let n : plate_end h ≤ length bytes = rw pe at k in
         (s ∙ rw (f.0, part-stored, part-pairs, le-ltb _ _ l, le-ltb _ _ n, pe), rw (f.1, part-stored, part-pairs, pm, le-ltb _ _ l, le-ltb _ _ n))
+
+  -- the same of the width of a row and the number of records
+  module _ (w r : ℕ) (pw : w ≡ side_pixels h.side) (pr : r ≡ records_for h.side h.pairs) (room : (w * w) ≤ length px) (k : (w * 2 + w * w * 2 + r * (w * 2)) ≤ length bytes) where
+    abbrev table_start : ℕ
+    table_start = w * 2 + w * w * 2
+
+    abbrev table_end : ℕ
+    table_end = table_start + r * (w * 2)
+
+    pub lent-room : (length (take (w * w) px) * 2 ≤ length (take (table_start - w * 2) (drop (w * 2) bytes))) × (h.pairs * 8 ≤ length (take (table_end - table_start) (drop table_start bytes)))
+    lent-room = parts-room (w * w) (w * 2) table_start table_end (rw pw) room (rw pw) (rw pw) (rw (pw, pr)) k
+
+    pub lent-framed : (checked : Result (Unit {0}) Refusal) (out : List ℕ) (a : Result Frame Refusal)
+        → (checked ≡ checked_pairs (numbers h.order 2 (length (take (w * w) px)) (take (table_start - w * 2) (drop (w * 2) bytes))) (pair_entries h.order h.pairs (take (table_end - table_start) (drop table_start bytes))))
+        × (out ≡ plate_pixels (numbers h.order 2 (length (take (w * w) px)) (take (table_start - w * 2) (drop (w * 2) bytes))) (pair_entries h.order h.pairs (take (table_end - table_start) (drop table_start bytes))))
+        → a ≡ answer_by h.side table_end checked
+        → (a ≡ image_answer bytes h (length px)) × (out ++ drop (w * w) px ≡ image_pixels bytes h px)
+    lent-framed = framed (w * w) (w * 2) table_start table_end (rw pw) room (rw pw) (rw pw) (rw (pw, pr)) k

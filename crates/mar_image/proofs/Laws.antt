@@ -1,5 +1,7 @@
 -- A pixel of 65535 waits for its pair, and no pair has that count: so the array as it is loaded tells which pairs may stand.
 -- Assumes nothing.
+use Rattle.marks.specs.Steps.{entry_read}
+use Rattle.marks.specs.declared.Entry.{Entry}
 use mathlib.Core.Path.{◌≡◌, refl, sym, ap, ◌∙◌}
 use mathlib.Core.Bool.{Bool, true, false, ◌&&◌}
 use mathlib.Core.List.{List, [], ◌∷◌}
@@ -10,15 +12,12 @@ use lib.ListN.{length, get_or, take, drop, length-drop}
 use lib.Seq.{drop-drop, take_all}
 use lib.Dec.{eqb, ltb}
 use borrow.Author.Tests.{eqb-true, eqb-false, ltb-true}
-use Rattle.std.specs.Prelude.{if◌then◌else◌}
+use Rattle.std.specs.Prelude.{if◌then◌else◌, Err, Ok, Result, None, Option, Some}
+use Rattle.std.specs.Result.{is_err}
 use Rattle.lists.specs.Bytes.{zeros}
 use Rattle.lists.proofs.Tests.{and-true-right}
 use Rattle.refusal.specs.declared.Refusal.{Refusal}
 use Rattle.layout.specs.declared.Width.TheVariants as W
-use Rattle.marks.specs.declared.Entry.{Entry}
-use Rattle.marks.specs.declared.Entry.TheVariants as E
-use Rattle.marks.specs.declared.Checked.{Checked}
-use Rattle.marks.specs.declared.Checked.TheVariants as C
 use Rattle.marks.specs.Marks.{intensity_at, intensity_of, with_entries}
 use Rattle.marks.specs.Steps.{placing, placed}
 use Rattle.marks.proofs.Laws.{Apart, Taken, taken, with-length}
@@ -33,7 +32,7 @@ unfolding pair_entries
 pairs-length o zero t = refl
 pairs-length o (suc n) t = ap suc (pairs-length o n (drop 8 t))
 
-pub pairs-at : (o : ByteOrder) (n : ℕ) (t : List ℕ) (k : ℕ) → k < n → get_or (pair_entries o n t) k E.Malformed ≡ pair_at o (drop (k * 8) t)
+pub pairs-at : (o : ByteOrder) (n : ℕ) (t : List ℕ) (k : ℕ) → k < n → get_or (pair_entries o n t) k None ≡ pair_at o (drop (k * 8) t)
 unfolding pair_entries
 pairs-at o zero t k h = absurd (not-suc-le-zero h)
 pairs-at o (suc n) t zero h = refl
@@ -52,7 +51,7 @@ pair-apart : (a c : ℕ) → intensity_of (pair_entry a c) ≡ 65535 → ⊥
 unfolding pair_entry
 pair-apart a c = go (ltb 0 a && ltb 65535 c) refl
   where
-    go : (b : Bool) → (ltb 0 a && ltb 65535 c) ≡ b → intensity_of (if◌then◌else◌ (ltb 0 a && ltb 65535 c) (E.Read c (a - 1)) E.Malformed) ≡ 65535 → ⊥
+    go : (b : Bool) → (ltb 0 a && ltb 65535 c) ≡ b → intensity_of (if◌then◌else◌ (ltb 0 a && ltb 65535 c) (Some (entry_read c (a - 1))) None) ≡ 65535 → ⊥
     go true q e = let k : c ≡ 65535 = rw q at e in omega (arith, ltb-true 65535 c (and-true-right (ltb 0 a) (ltb 65535 c) q))
     go false q e = let k : ◌≡◌ {A = ℕ} 0 65535 = rw q at e in omega arith
 
@@ -71,28 +70,36 @@ none_yet i (v ∷ vs) = go (eqb v 65535) refl (none_yet (suc i) vs)
     go true q f = let e : v ≡ 65535 = eqb-true v 65535 q in rw (q, f, e)
     go false q f = rw (q, f)
 
-module _ (vs : List ℕ) (es : List Entry) (apart : Apart 65535 es) where
+module _ (vs : List ℕ) (es : List (Option Entry)) (apart : Apart 65535 es) where
   whole : Taken 65535 W.Two vs (λ i q. eqb-false _ _ q) [] 0 es
   whole = taken 65535 W.Two vs (λ i q. eqb-false _ _ q) es [] 0 tt apart
 
   placed_first : placing 65535 vs 0 es ≡ checked_pairs vs es
   placed_first = rw none_yet at whole.answer
 
-  placed-pixels : checked_pairs vs es ≡ C.Good → placed 65535 vs es ≡ with_entries 65535 W.Two es 0 vs
+  placed-pixels : checked_pairs vs es ≡ (Ok tt) → placed 65535 vs es ≡ with_entries 65535 W.Two es 0 vs
   placed-pixels g = rw none_yet at (whole.pixels g)
 
 -- the two ways out of the filling: px₁ of the load, checked and px₂ of the loop over the pairs
-module _ (o : ByteOrder) (n : ℕ) (image t px₀ px₁ px₂ : List ℕ) (checked : Checked) (loaded : px₁ ≡ numbers o 2 (length px₀) image)
+module _ (o : ByteOrder) (n : ℕ) (image t px₀ px₁ px₂ : List ℕ) (checked : Result (Unit {0}) Refusal) (loaded : px₁ ≡ numbers o 2 (length px₀) image)
     (went : (checked ≡ placing 65535 px₁ 0 (pair_entries o n t)) × (px₂ ≡ placed 65535 px₁ (pair_entries o n t))) where
   is : checked ≡ checked_pairs (numbers o 2 (length px₀) image) (pair_entries o n t)
   is = went.0 ∙ rw loaded (placed_first (numbers o 2 (length px₀) image) (pair_entries o n t) (pairs-apart o n t))
 
-  pub filled-bad : {r : Refusal} → length px₂ ≡ length px₀ → checked ≡ C.Refused r
+  pub filled-bad : length px₂ ≡ length px₀ → is_err checked ≡ true
       → (checked ≡ checked_pairs (numbers o 2 (length px₀) image) (pair_entries o n t)) × (zeros (length px₂) ≡ plate_pixels (numbers o 2 (length px₀) image) (pair_entries o n t))
   unfolding plate_pixels
-  filled-bad {r} l q = (is, rw (← is, q, with-length, length-numbers, l))
+  filled-bad l q = (is, go checked refl q)
+    where
+      go : (c : Result (Unit {0}) Refusal) → checked ≡ c → is_err c ≡ true → zeros (length px₂) ≡ plate_pixels (numbers o 2 (length px₀) image) (pair_entries o n t)
+      go (Ok tt) e q = absurd (let y : ◌≡◌ {A = ℕ} 0 1 = cc in omega arith)
+      go (Err r) e q = rw (← is, e, with-length, length-numbers, l)
 
-  pub filled-good : checked ≡ C.Good
+  pub filled-good : is_err checked ≡ false
       → (checked ≡ checked_pairs (numbers o 2 (length px₀) image) (pair_entries o n t)) × (px₂ ≡ plate_pixels (numbers o 2 (length px₀) image) (pair_entries o n t))
   unfolding plate_pixels
-  filled-good q = (is, went.1 ∙ rw (loaded, ← is, q) (placed-pixels (numbers o 2 (length px₀) image) (pair_entries o n t) (pairs-apart o n t) (sym is ∙ q)))
+  filled-good q = (is, go checked refl q)
+    where
+      go : (c : Result (Unit {0}) Refusal) → checked ≡ c → is_err c ≡ false → px₂ ≡ plate_pixels (numbers o 2 (length px₀) image) (pair_entries o n t)
+      go (Ok tt) e q = went.1 ∙ rw (loaded, ← is, e) (placed-pixels (numbers o 2 (length px₀) image) (pair_entries o n t) (pairs-apart o n t) (sym is ∙ e))
+      go (Err r) e q = absurd (let y : ◌≡◌ {A = ℕ} 0 1 = cc in omega arith)

@@ -5,38 +5,29 @@ ghost use Rattle.std.specs.Prelude.{◌≡◌, ◌+◌, ◌*◌, ◌≤◌, leng
 ghost use Rattle.byte_order.specs.Numbers.{numbers};
 ghost use Rattle.marks.specs.Steps.{placing, placed};
 ghost use Rattle.mar_image.specs.Pairs.{pair_entry, pair_at, pair_entries};
-ghost use Rattle.mar_image.specs.MarImage.{checked_pairs, plate_pixels, answer_by, image_answer, image_pixels, mar_answer, mar_pixels};
+ghost use Rattle.mar_image.specs.MarImage.{checked_pairs, plate_pixels, image_answer, image_pixels, mar_answer, mar_pixels};
 
 use byte_order::ByteOrder;
-use layout::Width;
-use mar_header::{MarHeader, MarHeaderAnswer, Side};
-use marks::{Checked, Entry};
+use layout::{Frame, Width};
+use mar_header::MarHeader;
+use marks::Entry;
 use refusal::Refusal;
 
-// The pixels of a side, and the place where the last record ends; or why there is no image.
-#[derive(Clone, Copy)]
-pub enum MarAnswer {
-    Plate { side: u32, end: u64 },
-    Refused(Refusal),
-}
-
-fn pair_entry(address: u32, count: u32) -> Entry
+#[tactic(auto, unfolding(crate::specs::Pairs::pair_entry))]
+fn pair_entry(address: u32, count: u32) -> Option<Entry>
     ensures { result ≡ pair_entry address count }
 {
-    if address == 0 {
-        return Entry::Malformed;
+    if address == 0 || count <= 65535 {
+        return None;
     }
-    if count <= 65535 {
-        return Entry::Malformed;
-    }
-    Entry::Read {
+    Some(Entry {
         intensity: count,
         pixel: address - 1,
-    }
+    })
 }
 
 // The pair whose 8 bytes start at `at`.
-fn pair_at(table: &[u8], order: ByteOrder, at: usize) -> Entry
+fn pair_at(table: &[u8], order: ByteOrder, at: usize) -> Option<Entry>
     requires { at ≤ length table.now }
     ensures { result ≡ pair_at order (drop at table.now) }
 {
@@ -47,89 +38,78 @@ fn pair_at(table: &[u8], order: ByteOrder, at: usize) -> Entry
 }
 
 // Takes the n pairs of the table in file order; the first bad one decides. A pixel of 65535 waits, and no count is 65535.
-fn place_pairs(table: &[u8], order: ByteOrder, n: u32, pixels: &mut [u32]) -> Checked
+fn place_pairs(table: &[u8], order: ByteOrder, n: u32, pixels: &mut [u32]) -> Result<(), Refusal>
     requires { n * 8 ≤ length table.now }
     ensures value { result ≡ placing 65535 pixels.old 0 (pair_entries order n table.now) }
     ensures pixels_after { pixels.new ≡ placed 65535 pixels.old (pair_entries order n table.now) }
 {
-    let mut checked = Checked::Good;
-    let mut k: u32 = 0;
-    while k < n {
-        let at = k as usize * 8;
-        let e = pair_at(table, order, at);
-        if marks::place_entry(e, 65535, pixels) {
-            k += 1;
-        } else {
-            checked = Checked::Refused(Refusal::BadEntry { entry: k });
-            break;
+    for k in 0..n {
+        let e = pair_at(table, order, k as usize * 8);
+        if !marks::place_entry(e, 65535, pixels) {
+            return Err(Refusal::BadEntry { entry: k });
         }
     }
-    checked
+    Ok(())
 }
 
 // The whole array, from the image's bytes and those of the records of pairs.
-fn fill(image: &[u8], order: ByteOrder, table: &[u8], n: u32, pixels: &mut [u32]) -> Checked
+fn fill(
+    image: &[u8],
+    order: ByteOrder,
+    table: &[u8],
+    n: u32,
+    pixels: &mut [u32],
+) -> Result<(), Refusal>
     requires { (length pixels.old * 2 ≤ length image.now) × (n * 8 ≤ length table.now) }
     ensures value { result ≡ checked_pairs (numbers order 2 (length pixels.old) image.now) (pair_entries order n table.now) }
     ensures pixels_after { pixels.new ≡ plate_pixels (numbers order 2 (length pixels.old) image.now) (pair_entries order n table.now) }
 {
     byte_order::load_halves(image, order, Width::Two, pixels);
     let checked = place_pairs(table, order, n, pixels);
-    let Checked::Good = checked else {
-        table::clear(pixels);
-        return checked;
-    };
+    if checked.is_err() {
+        pixels.fill(0);
+    }
     checked
 }
 
-fn answer_by(side: Side, end: u64, checked: Checked) -> MarAnswer
-    ensures { result ≡ answer_by side end checked }
-{
-    match checked {
-        Checked::Good => MarAnswer::Plate {
-            side: mar_header::side_pixels(side),
-            end,
-        },
-        Checked::Refused(r) => MarAnswer::Refused(r),
-    }
-}
-
 // The image behind an accepted header.
-fn read_image(file: &[u8], header: MarHeader, pixels: &mut [u32]) -> MarAnswer
+fn read_image(file: &[u8], header: MarHeader, pixels: &mut [u32]) -> Result<Frame, Refusal>
     ensures value { result ≡ image_answer file.now header (length pixels.old) }
     ensures pixels_after { pixels.new ≡ image_pixels file.now header pixels.old }
 {
-    let side = header.side;
-    let order = header.order;
-    let pairs = header.pairs;
-    let row = mar_header::side_pixels(side) as usize;
+    let MarHeader { order, side, pairs } = header;
+    let width = mar_header::side_pixels(side);
+    let row = width as usize;
     let n = row * row;
     if pixels.len() < n {
-        return MarAnswer::Refused(Refusal::PixelArrayShort);
+        return Err(Refusal::PixelArrayShort);
     }
     let start = row * 2;
     let table = start + n * 2;
     let end = table + mar_header::records_for(side, pairs) as usize * start;
     if file.len() < end {
-        return MarAnswer::Refused(Refusal::DataTruncated);
+        return Err(Refusal::DataTruncated);
     }
-    let checked = fill(
+    fill(
         &file[start..table],
         order,
         &file[table..end],
         pairs,
         &mut pixels[..n],
-    );
-    answer_by(side, end as u64, checked)
+    )?;
+    Ok(Frame {
+        rows: width,
+        columns: width,
+        end: end as u64,
+    })
 }
 
 // The image of a mar file, into the start of the pixel array.
-pub fn read(file: &[u8], pixels: &mut [u32]) -> MarAnswer
+#[tactic(auto, unfolding(crate::specs::MarImage::mar_answer, crate::specs::MarImage::mar_pixels))]
+pub fn read(file: &[u8], pixels: &mut [u32]) -> Result<Frame, Refusal>
     ensures value { result ≡ mar_answer file.now (length pixels.old) }
     ensures pixels_after { pixels.new ≡ mar_pixels file.now pixels.old }
 {
-    match mar_header::read_header(file) {
-        MarHeaderAnswer::Accepted(h) => read_image(file, h, pixels),
-        MarHeaderAnswer::Refused(r) => MarAnswer::Refused(r),
-    }
+    let header = mar_header::read_header(file)?;
+    read_image(file, header, pixels)
 }

@@ -8,24 +8,18 @@ use refusal::Refusal;
 
 // An entry of a table: the intensity of a pixel, by its number from 0.
 #[derive(Clone, Copy)]
-pub enum Entry {
-    Read { intensity: u32, pixel: u32 },
-    Malformed,
+pub struct Entry {
+    pub intensity: u32,
+    pub pixel: u32,
 }
 
-// Whether the entries may stand.
-#[derive(Clone, Copy)]
-pub enum Checked {
-    Good,
-    Refused(Refusal),
-}
-
-// Puts an entry's intensity into its pixel, if that holds the number by which it waits.
-pub fn place_entry(e: Entry, hold: u32, pixels: &mut [u32]) -> bool
+// Puts an entry's intensity into its pixel, if that holds the number by which it waits. By index: once the borrow of `get_mut` is
+// over, a proof knows the array's length alone.
+pub fn place_entry(e: Option<Entry>, hold: u32, pixels: &mut [u32]) -> bool
     ensures value { result ≡ takes hold pixels.old e }
     ensures pixels_after { pixels.new ≡ if◌then◌else◌ (takes hold pixels.old e) (put pixels.old e) pixels.old }
 {
-    let Entry::Read { intensity, pixel } = e else {
+    let Some(Entry { intensity, pixel }) = e else {
         return false;
     };
     let p = pixel as usize;

@@ -1,5 +1,7 @@
 -- An accepted correction, withdrawal or amend, and the line that it appended.
 -- Assumes nothing.
+use Rattle.std.specs.Prelude.{Some}
+use Rattle.ledger.specs.Standing.{line_found}
 use mathlib.Core.Path.{◌≡◌, refl, sym, ap, ◌∙◌}
 use mathlib.Core.List.{List, [], ◌∷◌, ◌++◌}
 use Prim.Native.Nat.{ℕ, ◌+◌, ◌/◌, ◌^◌, ◌<◌}
@@ -7,7 +9,6 @@ use native.Mathlib.Omega.{arith}
 use lib.ListN.{length}
 use Rattle.refusal.specs.declared.Refusal.{Refusal}
 use Rattle.ledger.specs.declared.Line.{Line}
-use Rattle.ledger.specs.declared.Found.TheVariants.{At}
 use Rattle.ledger.specs.Lines.{lines_of, right_for}
 use Rattle.ledger.specs.Standing.{last_standing, any_line}
 use Rattle.ledger.specs.Ledger.{with_line}
@@ -56,7 +57,7 @@ pub record Top (ls : List Line) (l : Line) : Type 0 where
   pub below : List Line
   pub is : stack [] ls ≡ l ∷ below
 
-pub last-top : (ls : List Line) (i : ℕ) (l : Line) → last_standing any_line 0 ls ≡ At i l → Top ls l
+pub last-top : (ls : List Line) (i : ℕ) (l : Line) → last_standing any_line 0 ls ≡ Some (line_found i l) → Top ls l
 last-top ls i l e = go (stack [] ls) refl (sym (ap found_lines e) ∙ last-is-top any_line 0 ls)
   where
     go : (st : List Line) → stack [] ls ≡ st → l ∷ [] ≡ first_where any_line st → Top ls l

@@ -1,5 +1,7 @@
 -- Each call on real bytes gives what the model gives, and so does every list of calls.
 -- Assumes nothing.
+use Rattle.ledger.specs.Standing.{line_found}
+use Rattle.ledger.specs.declared.Found.{Found}
 use mathlib.Core.Path.{◌≡◌, refl, sym, ap, ◌∙◌}
 use mathlib.Core.Bool.{Bool, true, false, not}
 use mathlib.Core.List.{List, [], ◌∷◌}
@@ -9,21 +11,15 @@ use lib.ListN.{length, get_or, set, length-append, length-set}
 use lib.Seq.{get_or-set_same, set-set, set-get_or}
 use lib.Dec.{eqb, leb, ltb}
 use borrow.Author.Tests.{eq-eqb, ne_eqb, leb-false, lt-leb, le-ltb, ltb-false, not-false}
-use Rattle.std.specs.Prelude.{if◌then◌else◌}
+use Rattle.std.specs.Prelude.{if◌then◌else◌, Err, Ok, Some, None, Option}
 use Rattle.refusal.specs.declared.Refusal.{Refusal}
 use Rattle.refusal.specs.declared.Refusal.TheVariants as R
-use Rattle.writer.specs.declared.AskedForm.TheVariants as F
-use Rattle.writer.specs.declared.WriteAnswer.TheVariants as W
 use Rattle.lists.specs.Bytes.{held_bytes}
 use Rattle.writer.specs.Writer as Writer
 use Rattle.writer.specs.Writer.{frame, writer_frame, write_answer, answer_of}
 use Rattle.calendar.specs.declared.Date.{Date}
 use Rattle.calendar.specs.Calendar.{is_date, before}
 use Rattle.ledger.specs.declared.Line.{Line}
-use Rattle.ledger.specs.declared.Found.{Found}
-use Rattle.ledger.specs.declared.Found.TheVariants.{At, Nothing}
-use Rattle.ledger.specs.declared.LedgerAnswer.TheVariants as L
-use Rattle.ledger.specs.declared.PurgeAnswer.TheVariants as P
 use Rattle.ledger.specs.Lines.{lines_of, right_for}
 use Rattle.ledger.specs.Standing.{withdraws, keeps, standing, last_standing, any_line}
 use Rattle.ledger.specs.Ledger.{ledger_malformed, with_line, keep_line, keep_answer, keep_bytes, purge_by, purge_answer}
@@ -87,20 +83,20 @@ good-writes o (kept d ∷ es) g = good-writes o es g
 
 -- what a search for the last standing line found
 
-found_none : (f : Found) → found_lines f ≡ [] → f ≡ Nothing
-found_none Nothing e = refl
-found_none (At i l) e = let z : ◌≡◌ {A = ℕ} 0 1 = cc in absurd (omega arith)
+found_none : (f : Option Found) → found_lines f ≡ [] → f ≡ None
+found_none None e = refl
+found_none (Some fd) e = let z : ◌≡◌ {A = ℕ} 0 1 = cc in absurd (omega arith)
 
-found-one : {A : Type 0} (g : Found → A) (h : Line → A) → ((i : ℕ) (l : Line) → g (At i l) ≡ h l) → (f : Found) (l : Line) → found_lines f ≡ l ∷ [] → g f ≡ h l
-found-one g h k Nothing l e = let z : ◌≡◌ {A = ℕ} 0 1 = cc in absurd (omega arith)
-found-one g h k (At i x) l e = let q : x ≡ l = cc in k i x ∙ ap h q
+found-one : {A : Type 0} (g : Option Found → A) (h : Line → A) → ((i : ℕ) (l : Line) → g (Some (line_found i l)) ≡ h l) → (f : Option Found) (l : Line) → found_lines f ≡ l ∷ [] → g f ≡ h l
+found-one g h k None l e = let z : ◌≡◌ {A = ℕ} 0 1 = cc in absurd (omega arith)
+found-one g h k (Some fd) l e = let q : fd.line ≡ l = cc in k fd.index fd.line ∙ ap h q
 
-purged-if : (b : Bool) → purged (if◌then◌else◌ b P.Allowed (P.Refused R.NotYet)) ≡ if◌then◌else◌ b accepted (refused R.NotYet)
+purged-if : (b : Bool) → purged (if◌then◌else◌ b (Ok tt) (Err R.NotYet)) ≡ if◌then◌else◌ b accepted (refused R.NotYet)
 purged-if true = refl
 purged-if false = refl
 
 -- the purge question, by the last keep line that stands
-purge-asked : (opened : List ℕ) (day : Date) (es : List Entry) (f : Found) → found_lines f ≡ first_where keeps (line_stack opened es) → purged (purge_by day f) ≡ asked_of day es
+purge-asked : (opened : List ℕ) (day : Date) (es : List Entry) (f : Option Found) → found_lines f ≡ first_where keeps (line_stack opened es) → purged (purge_by day f) ≡ asked_of day es
 unfolding line_stack purge_by asked_of
 purge-asked opened day [] f e = rw (found_none f e)
 purge-asked opened day (corrected p c ∷ es) f e = purge-asked opened day es f e
@@ -110,7 +106,7 @@ purge-asked opened day (kept d ∷ es) f e =
 -- the definitions of the calls, one test after the other
 
 pub keep-answer : (u : List ℕ) (n : ℕ) (d : Date) → keep_answer u n d
-    ≡ if◌then◌else◌ (ledger_malformed u n) (L.Refused R.LedgerMalformed) (if◌then◌else◌ (not (is_date d)) (L.Refused R.NotADate) (if◌then◌else◌ (leb (length u / 16) n) (L.Refused R.LedgerFull) (L.Accepted (n + 1))))
+    ≡ if◌then◌else◌ (ledger_malformed u n) (Err R.LedgerMalformed) (if◌then◌else◌ (not (is_date d)) (Err R.NotADate) (if◌then◌else◌ (leb (length u / 16) n) (Err R.LedgerFull) (Ok (n + 1))))
 unfolding keep_answer
 keep-answer u n d = refl
 
@@ -120,14 +116,14 @@ unfolding keep_bytes
 keep-bytes u n d = refl
 
 pub after-keep : (b c : Bool) (n : ℕ) (h u w : List ℕ)
-    → after n (if◌then◌else◌ b (L.Refused R.NotADate) (if◌then◌else◌ c (L.Refused R.LedgerFull) (L.Accepted (n + 1)))) h (if◌then◌else◌ b u (if◌then◌else◌ c u w))
-    ≡ if◌then◌else◌ b (after n (L.Refused R.NotADate) h u) (if◌then◌else◌ c (after n (L.Refused R.LedgerFull) h u) (after n (L.Accepted (n + 1)) h w))
+    → after n (if◌then◌else◌ b (Err R.NotADate) (if◌then◌else◌ c (Err R.LedgerFull) (Ok (n + 1)))) h (if◌then◌else◌ b u (if◌then◌else◌ c u w))
+    ≡ if◌then◌else◌ b (after n (Err R.NotADate) h u) (if◌then◌else◌ c (after n (Err R.LedgerFull) h u) (after n (Ok (n + 1)) h w))
 after-keep true c n h u w = refl
 after-keep false true n h u w = refl
 after-keep false false n h u w = refl
 
 pub purge-answer : (u : List ℕ) (n : ℕ) (d : Date) → purge_answer u n d
-    ≡ if◌then◌else◌ (ledger_malformed u n) (P.Refused R.LedgerMalformed) (if◌then◌else◌ (not (is_date d)) (P.Refused R.NotADate) (purge_by d (last_standing keeps 0 (lines_of n u))))
+    ≡ if◌then◌else◌ (ledger_malformed u n) (Err R.LedgerMalformed) (if◌then◌else◌ (not (is_date d)) (Err R.NotADate) (purge_by d (last_standing keeps 0 (lines_of n u))))
 unfolding purge_answer
 purge-answer u n d = refl
 
@@ -154,7 +150,7 @@ pub amend-outcome : (h u : List ℕ) (n k : ℕ) → amend_outcome h u n k
 unfolding amend_outcome
 amend-outcome h u n k = refl
 
-write-answer : (g : List ℕ) (o : Opening) (vs : List ℕ) → write_answer g (F.Listed o.form) vs o.held_length ≡ answer_of o.held_length (writer_frame g (F.Listed o.form) vs)
+write-answer : (g : List ℕ) (o : Opening) (vs : List ℕ) → write_answer g (Some o.form) vs o.held_length ≡ answer_of o.held_length (writer_frame g (Some o.form) vs)
 unfolding write_answer
 write-answer g o vs = refl
 
@@ -235,7 +231,7 @@ module _ (o : Opening) (few : length o.pixels ≤ 2 ^ 24) (given : Given o) wher
       go false f = k f
 
   module _ {f : List ℕ} {ls : Ledger} {es : List Entry} (s : Same f ls es) where
-    refuses : (c : Call) (r : Refusal) → Agree ls c (model_at es ls) (after (length ls.lines) (L.Refused r) (held_bytes o.held_length f) (ledger_bytes ls)) (refuse (model_at es ls) r)
+    refuses : (c : Call) (r : Refusal) → Agree ls c (model_at es ls) (after (length ls.lines) (Err r) (held_bytes o.held_length f) (ledger_bytes ls)) (refuse (model_at es ls) r)
     refuses c r = record {
       reply = refl;
       frame = f;
@@ -248,7 +244,7 @@ module _ (o : Opening) (few : length o.pixels ≤ 2 ^ 24) (given : Given o) wher
     }
 
     accepts : (c : Call) (n : ℕ) (u : List ℕ) (f' : List ℕ) (ls' : Ledger) (es' : List Entry) → n ≡ length ls'.lines → u ≡ ledger_bytes ls' → ls' ≡ ledger_by o (model_at es ls) c ls → Same f' ls' es'
-        → Agree ls c (model_at es ls) (after (length ls.lines) (L.Accepted n) (held_bytes o.held_length f') u) (accept n es')
+        → Agree ls c (model_at es ls) (after (length ls.lines) (Ok n) (held_bytes o.held_length f') u) (accept n es')
     accepts c n u f' ls' es' e d by s' = record {
       reply = refl;
       frame = f';
@@ -262,7 +258,7 @@ module _ (o : Opening) (few : length o.pixels ≤ 2 ^ 24) (given : Given o) wher
 
     -- with the call's lines appended
     appends : (c : Call) (ks : List Line) (f' : List ℕ) (es' : List Entry) → appended ls ks ≡ ledger_by o (model_at es ls) c ls → Same f' (appended ls ks) es'
-        → Agree ls c (model_at es ls) (after (length ls.lines) (L.Accepted (length ls.lines + length ks)) (held_bytes o.held_length f') (with_lines (ledger_bytes ls) (length ls.lines) ks)) (accept (length ls.lines + length ks) es')
+        → Agree ls c (model_at es ls) (after (length ls.lines) (Ok (length ls.lines + length ks)) (held_bytes o.held_length f') (with_lines (ledger_bytes ls) (length ls.lines) ks)) (accept (length ls.lines + length ks) es')
     appends c ks f' es' by s' =
         accepts c (length ls.lines + length ks) (with_lines (ledger_bytes ls) (length ls.lines) ks) f' (appended ls ks) es' (sym (length-append ls.lines ks)) (ledger-more ls ks) by s'
 
@@ -328,7 +324,7 @@ module _ (o : Opening) (few : length o.pixels ≤ 2 ^ 24) (given : Given o) wher
         found : found_lines (last_standing keeps 0 (lines_of (length ls.lines) (ledger_bytes ls))) ≡ first_where keeps (line_stack o.pixels es)
         found = rw s.holds.read (last-is-top keeps 0 ls.lines ∙ rw s.top)
 
-        go : (b : Bool) → purged (if◌then◌else◌ b (P.Refused R.NotADate) (purge_by d (last_standing keeps 0 (lines_of (length ls.lines) (ledger_bytes ls))))) ≡ if◌then◌else◌ b (refused R.NotADate) (asked_of d es)
+        go : (b : Bool) → purged (if◌then◌else◌ b (Err R.NotADate) (purge_by d (last_standing keeps 0 (lines_of (length ls.lines) (ledger_bytes ls))))) ≡ if◌then◌else◌ b (refused R.NotADate) (asked_of d es)
         go true = refl
         go false = purge-asked o.pixels d es _ found
 
@@ -342,15 +338,15 @@ module _ (o : Opening) (few : length o.pixels ≤ 2 ^ 24) (given : Given o) wher
     -- the held buffer becomes the writer's frame, or not: 17, 18
     writes-agree : (c : Call) (p k : ℕ) (below : List Entry) (ks : List Line) (made : Writer.Made)
         → ((f' : List ℕ) → made ≡ frame f' → length f' ≤ o.held_length
-        → Agree ls c (model_at es ls) (after (length ls.lines) (L.Accepted (length ls.lines + length ks)) (held_bytes o.held_length f') (with_lines (ledger_bytes ls) (length ls.lines) ks)) (accept (length ls.lines + length ks) (corrected p k ∷ below)))
+        → Agree ls c (model_at es ls) (after (length ls.lines) (Ok (length ls.lines + length ks)) (held_bytes o.held_length f') (with_lines (ledger_bytes ls) (length ls.lines) ks)) (accept (length ls.lines + length ks) (corrected p k ∷ below)))
         → Agree ls c (model_at es ls) (after_outcome (length ls.lines) (held_as (held_bytes o.held_length f) (ledger_bytes ls) (length ls.lines) ks made)) (corrected_by (model_at es ls) (length ls.lines + length ks) below p k (answer_of o.held_length made))
     writes-agree c p k below ks (Writer.refused r) next = refuses c r
     writes-agree c p k below ks (frame f') next = rw (held-length o (px es) f pixels s.fits given) (go (ltb o.held_length (length f')) refl)
       where
         go : (b : Bool) → ltb o.held_length (length f') ≡ b
             → Agree ls c (model_at es ls)
-            (after_outcome (length ls.lines) (if◌then◌else◌ b (C.refuse (held_bytes o.held_length f) (ledger_bytes ls) (length ls.lines) R.OutputShort) (outcome (L.Accepted (length ls.lines + length ks)) (held_bytes o.held_length f') (with_lines (ledger_bytes ls) (length ls.lines) ks))))
-            (corrected_by (model_at es ls) (length ls.lines + length ks) below p k (if◌then◌else◌ b (W.Refused R.OutputShort) (W.Written (length f'))))
+            (after_outcome (length ls.lines) (if◌then◌else◌ b (C.refuse (held_bytes o.held_length f) (ledger_bytes ls) (length ls.lines) R.OutputShort) (outcome (Ok (length ls.lines + length ks)) (held_bytes o.held_length f') (with_lines (ledger_bytes ls) (length ls.lines) ks))))
+            (corrected_by (model_at es ls) (length ls.lines + length ks) below p k (if◌then◌else◌ b (Err R.OutputShort) (Ok (length f'))))
         go true e = refuses c R.OutputShort
         go false e = next f' refl (ltb-false o.held_length (length f') e)
 
@@ -378,7 +374,7 @@ module _ (o : Opening) (few : length o.pixels ≤ 2 ^ 24) (given : Given o) wher
         )
         (agree-in {b = leb (length o.pixels) p} (after_outcome n) _ _ refl (refuses (correct p k) R.NoSuchPixel) (λ inside.
         agree-in (after_outcome n) _ _ (full n) (refuses (correct p k) R.LedgerFull) (λ free.
-        writes-agree (correct p k) p k es (line ∷ []) (writer_frame o.header (F.Listed o.form) (set (px es) p k)) (λ f' made fits.
+        writes-agree (correct p k) p k es (line ∷ []) (writer_frame o.header (Some o.form) (set (px es) p k)) (λ f' made fits.
         let there : p < length o.pixels = leb-false (length o.pixels) p inside in
         let new : Fits o (set (px es) p k) f' = record { made = made; room = fits } in
         appends (correct p k) (line ∷ []) f' (corrected p k ∷ es) refl
@@ -406,7 +402,7 @@ module _ (o : Opening) (few : length o.pixels ≤ 2 ^ 24) (given : Given o) wher
 
   -- another count for it: the writer's frame for the pixels below with that count
   top-changed : {f : List ℕ} {ls : Ledger} (p k : ℕ) (es : List Entry) (s : Same f ls (corrected p k ∷ es)) (n count : ℕ)
-      → changed (held_bytes o.held_length f) (ledger_bytes ls) n p count ≡ writer_frame o.header (F.Listed o.form) (set (px es) p count)
+      → changed (held_bytes o.held_length f) (ledger_bytes ls) n p count ≡ writer_frame o.header (Some o.form) (set (px es) p count)
   unfolding pixels_with
   top-changed {f} {ls} p k es s n count =
       changed-is o (set (px es) p k) f (pixels s) s.fits given (ledger_bytes ls) n p count ∙ rw (set-set (px es) p k count)
@@ -415,7 +411,7 @@ module _ (o : Opening) (few : length o.pixels ≤ 2 ^ 24) (given : Given o) wher
   correction-back : {f : List ℕ} {ls : Ledger} (p k : ℕ) (es : List Entry) (s : Same f ls (corrected p k ∷ es)) (w : Writes o (px es))
       → correction_back (held_bytes o.held_length f) (ledger_bytes ls) (length ls.lines) (correction_line p (get_or (px es) p 0) k)
       ≡ if◌then◌else◌ (leb (length (ledger_bytes ls) / 16) (length ls.lines)) (C.refuse (held_bytes o.held_length f) (ledger_bytes ls) (length ls.lines) R.LedgerFull)
-      (outcome (L.Accepted (length ls.lines + 1)) (held_bytes o.held_length w.frame) (with_line (ledger_bytes ls) (length ls.lines) withdrawal_line))
+      (outcome (Ok (length ls.lines + 1)) (held_bytes o.held_length w.frame) (with_line (ledger_bytes ls) (length ls.lines) withdrawal_line))
   unfolding pixels_with
   correction-back {f} {ls} p k es s w =
       let vs : List ℕ = set (px es) p k in
@@ -492,7 +488,7 @@ module _ (o : Opening) (few : length o.pixels ≤ 2 ^ 24) (given : Given o) wher
         write-answer o.header o (set (px es) p count),
       )
       (agree-in (after_outcome n) _ _ (full s (n + 1)) (refuses s (amend count) R.LedgerFull) (λ free.
-      writes-agree s (amend count) p count es two (writer_frame o.header (F.Listed o.form) (set (px es) p count)) (λ f' made fits.
+      writes-agree s (amend count) p count es two (writer_frame o.header (Some o.form) (set (px es) p count)) (λ f' made fits.
       appends s (amend count) two f' (corrected p count ∷ es) refl
       (amended s count small f' (record { made = made; room = fits }) (room s (n + 1) free)))))
 

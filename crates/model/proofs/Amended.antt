@@ -1,5 +1,7 @@
 -- Request A6: amending, where it is accepted, is a withdrawal and then a correction of the same pixel, in the model and on real bytes.
 -- Assumes nothing.
+use Rattle.ledger.specs.Standing.{line_found}
+use Rattle.refusal.specs.declared.Refusal.{Refusal}
 use mathlib.Core.Path.{◌≡◌, refl, sym, ap, ◌∙◌}
 use mathlib.Core.Bool.{Bool, true, false}
 use mathlib.Core.List.{List, [], ◌∷◌}
@@ -8,24 +10,19 @@ use native.Mathlib.Omega.{arith}
 use lib.ListN.{length, get_or, set}
 use lib.Dec.{leb}
 use borrow.Author.Tests.{leb-false, lt-leb}
-use Rattle.std.specs.Prelude.{if◌then◌else◌}
+use Rattle.std.specs.Prelude.{if◌then◌else◌, Err, Ok, Result, Some, ℕ}
 use Rattle.refusal.specs.declared.Refusal.TheVariants as R
 use Rattle.layout.specs.declared.Form.{Form}
-use Rattle.writer.specs.declared.AskedForm.TheVariants as F
-use Rattle.writer.specs.declared.WriteAnswer.{WriteAnswer}
-use Rattle.writer.specs.declared.WriteAnswer.TheVariants as W
-use Rattle.writer.specs.Writer.{frame}
 use Rattle.calendar.specs.declared.Date.{Date}
 use Rattle.ledger.specs.declared.Line.{Line}
-use Rattle.ledger.specs.declared.Found.TheVariants.{At}
 use Rattle.ledger.specs.Lines.{lines_of}
 use Rattle.ledger.specs.Standing.{last_standing, any_line}
 use Rattle.ledger.proofs.Appending.{found_lines}
 use Rattle.archive.specs.Calls.{correction_line, withdrawal_line}
 use Rattle.model.specs.Model.{Call, correct, withdraw, amend, accepted, refused, Reply, Step, run, Entry, corrected, kept, Model, Opening, pixels_with, refuse, accept, corrected_by, written, model_step}
 use Rattle.model.specs.Ledger.{Ledger, ledger_bytes, ledger_after, ledger_run}
-use Rattle.opening.specs.declared.OpenAnswer.TheVariants.{Opened}
-use Rattle.opening.specs.Open.{open_answer}
+use Rattle.layout.specs.Layout.{frame_read}
+use Rattle.opening.specs.Open.{opened, open_answer}
 use Rattle.model.specs.Run.{step, AllCounted, OpenedIn, in-asked}
 use Rattle.model.specs.Theorems.{back_and_anew, TwoSteps, AmendIsTwo, AmendLeavesTwo}
 use Rattle.model.proofs.Held.{Given, same-frame}
@@ -51,11 +48,11 @@ module _ (o : Opening) (p k c n : ℕ) (es : List Entry) (there : p < length o.p
       ≡ if◌then◌else◌ (leb (o.ledger_length / 16) (n + 1)) (refuse (model_of es (n + 1)) R.LedgerFull) (corrected_by (model_of es (n + 1)) (n + 1 + 1) es p c (written o (set (pixels_with o.pixels es) p c)))
   correct-is = model-correct o (model_of es (n + 1)) p c ∙ rw (lt-leb (length o.pixels) p there)
 
-  made : (x : WriteAnswer) → leb (o.ledger_length / 16) (n + 1) ≡ false → written o (set (pixels_with o.pixels es) p c) ≡ x
+  made : (x : Result ℕ Refusal) → leb (o.ledger_length / 16) (n + 1) ≡ false → written o (set (pixels_with o.pixels es) p c) ≡ x
       → (corrected_by m (n + 2) es p c x).reply.answer ≡ accepted → TwoSteps o m p c
   unfolding run ledger_run
-  made (W.Refused r) f g q = let z : ◌≡◌ {A = ℕ} 0 1 = cc in absurd (omega arith)
-  made (W.Written l) f g q =
+  made (Err r) f g q = let z : ◌≡◌ {A = ℕ} 0 1 = cc in absurd (omega arith)
+  made (Ok l) f g q =
       let e : n + 1 + 1 ≡ n + 2 = omega arith in
       let room : n + 1 < o.ledger_length / 16 = leb-false (o.ledger_length / 16) (n + 1) f in
       let first : model_step o withdraw m ≡ accept (n + 1) es = withdraw-is ∙ rw (lt-leb (o.ledger_length / 16) n (omega arith)) in
@@ -70,7 +67,7 @@ module _ (o : Opening) (p k c n : ℕ) (es : List Entry) (there : p < length o.p
   two_steps : (model_step o (amend c) m).reply.answer ≡ accepted → TwoSteps o m p c
   two_steps a = free (leb (o.ledger_length / 16) (n + 1)) refl (written o (set (pixels_with o.pixels es) p c)) refl
     where
-      free : (b : Bool) → leb (o.ledger_length / 16) (n + 1) ≡ b → (x : WriteAnswer) → written o (set (pixels_with o.pixels es) p c) ≡ x → TwoSteps o m p c
+      free : (b : Bool) → leb (o.ledger_length / 16) (n + 1) ≡ b → (x : Result ℕ Refusal) → written o (set (pixels_with o.pixels es) p c) ≡ x → TwoSteps o m p c
       free true f x g =
           let is : model_step o (amend c) m ≡ refuse m R.LedgerFull = amend-is ∙ rw f in
           let q : refused R.LedgerFull ≡ accepted = sym (ap (λ (s : Step Model). s.reply.answer) is) ∙ a in
@@ -111,7 +108,7 @@ module _ (o : Opening) (few : length o.pixels ≤ 2 ^ 24) (given : Given o) (c :
       let z : ◌≡◌ {A = ℕ} 0 1 = cc in omega arith
 
   two_from : {f : List ℕ} {ls : Ledger} (es : List Entry) (s : Same o few given f ls es) (i : ℕ) (l : Line)
-      → last_standing any_line 0 (lines_of (length ls.lines) (ledger_bytes ls)) ≡ At i l
+      → last_standing any_line 0 (lines_of (length ls.lines) (ledger_bytes ls)) ≡ Some (line_found i l)
       → (step (amend c) (state_at o few given f ls)).reply.answer ≡ accepted
       → (run step (back_and_anew l.pixel c) (state_at o few given f ls)).state ≡ (step (amend c) (state_at o few given f ls)).state
   unfolding line_stack
@@ -135,7 +132,7 @@ amend-leaves-two-opened bytes pixels held ledger form byte opened cs counted =
 
 -- where the form was asked for
 pub amend-leaves-two : (bytes pixels held ledger : List ℕ) (form : Form) (rows columns end n : ℕ) (byte : (i : ℕ) → get_or bytes i 0 < 256)
-    (opened : open_answer bytes pixels (F.Listed form) (length held) ≡ Opened rows columns end n) (cs : List Call) (counted : AllCounted cs)
+    (opened : open_answer bytes pixels (Some form) (length held) ≡ Ok (opened (frame_read rows columns end) (Ok n))) (cs : List Call) (counted : AllCounted cs)
     → AmendLeavesTwo (later bytes pixels held ledger form byte (in-asked rows columns end n opened) cs counted)
 amend-leaves-two bytes pixels held ledger form rows columns end n byte opened cs counted =
     amend-leaves-two-opened bytes pixels held ledger form byte (in-asked rows columns end n opened) cs counted

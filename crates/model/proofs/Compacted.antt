@@ -1,6 +1,8 @@
 -- Request A8: what follows a compaction goes as if there had been none, for purge questions and for runs that have room without it, on every held buffer and
 -- every ledger, whether or not they come from an opening.
 -- Assumes nothing.
+use Rattle.ledger.specs.Standing.{line_found}
+use Rattle.ledger.specs.declared.Found.{Found}
 use mathlib.Core.Path.{◌≡◌, refl, sym, ap, ◌∙◌}
 use mathlib.Core.Bool.{Bool, true, false, not}
 use mathlib.Core.List.{List, [], ◌∷◌}
@@ -9,7 +11,7 @@ use native.Mathlib.Omega.{arith}
 use lib.ListN.{length, get_or, drop}
 use lib.Dec.{eqb, leb, ltb}
 use borrow.Author.Tests.{leb-false, lt-leb}
-use Rattle.std.specs.Prelude.{if◌then◌else◌}
+use Rattle.std.specs.Prelude.{if◌then◌else◌, Err, Ok, None, Option, Some}
 use Rattle.lists.specs.Bytes.{held_bytes}
 use Rattle.refusal.specs.declared.Refusal.{Refusal}
 use Rattle.refusal.specs.declared.Refusal.TheVariants as R
@@ -18,9 +20,6 @@ use Rattle.calendar.specs.Calendar.{is_date}
 use Rattle.ledger.specs.declared.Kind.{Kind}
 use Rattle.ledger.specs.declared.Kind.TheVariants.{Correction, Keep, Withdrawal}
 use Rattle.ledger.specs.declared.Line.{Line}
-use Rattle.ledger.specs.declared.Found.{Found}
-use Rattle.ledger.specs.declared.Found.TheVariants.{At, Nothing}
-use Rattle.ledger.specs.declared.LedgerAnswer.TheVariants as L
 use Rattle.ledger.specs.Lines.{lines_of}
 use Rattle.ledger.specs.Standing.{keeps, standing, last_standing, any_line}
 use Rattle.ledger.specs.Ledger.{ledger_malformed, with_line, keep_line, purge_by, purge_answer}
@@ -66,15 +65,15 @@ follows-at : {q r q₁ r₁ : Step State} → q ≡ q₁ → r ≡ r₁ → Foll
 follows-at e f k = rw (e, f) k
 
 -- what does not ask for the index of a line that was found says the same where the line is the same
-pub same-found : {A : Type 0} (by : Found → A) (line : Line → A) → ((i : ℕ) (l : Line) → by (At i l) ≡ line l) → (f g : Found) → found_lines g ≡ found_lines f → by g ≡ by f
-same-found by line k Nothing Nothing e = refl
-same-found by line k (At i l) (At j x) e = let q : x ≡ l = cc in k j x ∙ ap line q ∙ sym (k i l)
-same-found by line k Nothing (At j x) e = let z : ◌≡◌ {A = ℕ} 0 1 = cc in absurd (omega arith)
-same-found by line k (At i l) Nothing e = let z : ◌≡◌ {A = ℕ} 0 1 = cc in absurd (omega arith)
+pub same-found : {A : Type 0} (by : Option Found → A) (line : Line → A) → ((i : ℕ) (l : Line) → by (Some (line_found i l)) ≡ line l) → (f g : Option Found) → found_lines g ≡ found_lines f → by g ≡ by f
+same-found by line k None None e = refl
+same-found by line k (Some fd) (Some fd1) e = let q : fd1.line ≡ fd.line = cc in k fd1.index fd1.line ∙ ap line q ∙ sym (k fd.index fd.line)
+same-found by line k None (Some fd) e = let z : ◌≡◌ {A = ℕ} 0 1 = cc in absurd (omega arith)
+same-found by line k (Some fd) None e = let z : ◌≡◌ {A = ℕ} 0 1 = cc in absurd (omega arith)
 
-purge-by-lines : (d : Date) (f g : Found) → found_lines g ≡ found_lines f → purge_by d g ≡ purge_by d f
+purge-by-lines : (d : Date) (f g : Option Found) → found_lines g ≡ found_lines f → purge_by d g ≡ purge_by d f
 unfolding purge_by
-purge-by-lines d = same-found (purge_by d) (λ l. purge_by d (At 0 l)) (λ i l. refl)
+purge-by-lines d = same-found (purge_by d) (λ l. purge_by d (Some (line_found 0 l))) (λ i l. refl)
 
 -- the purge question is the same, of any two such ledgers
 pub same-purge : {t u : List ℕ} {n k : ℕ} → Alike t n u k → (d : Date) → purge_answer u k d ≡ purge_answer t n d
@@ -94,7 +93,7 @@ alike-lines (l ∷ ls) {t} {u} {n} {k} a free =
     rw (← i, ← j) (alike-lines ls (alike-more a (omega arith) l) (rw size (omega arith)))
 
 module _ (h t u : List ℕ) (n k : ℕ) (a : Alike t n u k) where
-  refuses : (r : Refusal) → Follows (after n (L.Refused r) h t) (after k (L.Refused r) h u)
+  refuses : (r : Refusal) → Follows (after n (Err r) h t) (after k (Err r) h u)
   refuses r x = record { answer = refl; states = record { held = refl; alike = a } }
 
   -- fewer lines have room where more have
@@ -112,7 +111,7 @@ module _ (h t u : List ℕ) (n k : ℕ) (a : Alike t n u k) where
   room : (x : ℕ) → leb (length t / 16) x ≡ false → x + 1 ≤ length t / 16
   room x e = let f : x < length t / 16 = leb-false (length t / 16) x e in omega arith
 
-  appends : (ls : List Line) (f : List ℕ) → n + length ls ≤ length t / 16 → Follows (after n (L.Accepted (n + length ls)) f (with_lines t n ls)) (after k (L.Accepted (k + length ls)) f (with_lines u k ls))
+  appends : (ls : List Line) (f : List ℕ) → n + length ls ≤ length t / 16 → Follows (after n (Ok (n + length ls)) f (with_lines t n ls)) (after k (Ok (k + length ls)) f (with_lines u k ls))
   appends ls f free x = record { answer = refl; states = record { held = refl; alike = alike-lines ls a free } }
 
   -- the held buffer becomes a frame, and lines are appended
@@ -132,11 +131,11 @@ module _ (h t u : List ℕ) (n k : ℕ) (a : Alike t n u k) where
       follows-full (after_outcome n) (after_outcome k) _ _ _ _ (leb (length t / 16) n) (leb (length u / 16) k) refl full-now (λ free. appends (withdrawal_line ∷ []) h (room n free))
   back l Withdrawal = refuses R.NothingStands
 
-  last-back : (f g : Found) → found_lines g ≡ found_lines f → Follows (after_outcome n (last_back h t n f)) (after_outcome k (last_back h u k g))
-  last-back Nothing Nothing e = refuses R.NothingStands
-  last-back (At i l) (At j x) e = let q : x ≡ l = cc in rw q (back l l.kind)
-  last-back Nothing (At j x) e = let z : ◌≡◌ {A = ℕ} 0 1 = cc in absurd (omega arith)
-  last-back (At i l) Nothing e = let z : ◌≡◌ {A = ℕ} 0 1 = cc in absurd (omega arith)
+  last-back : (f g : Option Found) → found_lines g ≡ found_lines f → Follows (after_outcome n (last_back h t n f)) (after_outcome k (last_back h u k g))
+  last-back None None e = refuses R.NothingStands
+  last-back (Some fd) (Some fd1) e = let q : fd1.line ≡ fd.line = cc in rw q (back fd.line fd.line.kind)
+  last-back None (Some fd) e = let z : ◌≡◌ {A = ℕ} 0 1 = cc in absurd (omega arith)
+  last-back (Some fd) None e = let z : ◌≡◌ {A = ℕ} 0 1 = cc in absurd (omega arith)
 
   withdraw-follows : Follows (step withdraw (state_of h t n)) (step withdraw (state_of h u k))
   unfolding step
@@ -162,9 +161,9 @@ module _ (h t u : List ℕ) (n k : ℕ) (a : Alike t n u k) where
     where
       go : (b : Bool) → ledger_malformed t n ≡ b
           → Follows
-          (after n (if◌then◌else◌ b (L.Refused R.LedgerMalformed) (if◌then◌else◌ (not (is_date d)) (L.Refused R.NotADate) (if◌then◌else◌ (leb (length t / 16) n) (L.Refused R.LedgerFull) (L.Accepted (n + 1)))))
+          (after n (if◌then◌else◌ b (Err R.LedgerMalformed) (if◌then◌else◌ (not (is_date d)) (Err R.NotADate) (if◌then◌else◌ (leb (length t / 16) n) (Err R.LedgerFull) (Ok (n + 1)))))
           h (if◌then◌else◌ b t (if◌then◌else◌ (not (is_date d)) t (if◌then◌else◌ (leb (length t / 16) n) t (with_line t n (keep_line d))))))
-          (after k (if◌then◌else◌ b (L.Refused R.LedgerMalformed) (if◌then◌else◌ (not (is_date d)) (L.Refused R.NotADate) (if◌then◌else◌ (leb (length u / 16) k) (L.Refused R.LedgerFull) (L.Accepted (k + 1)))))
+          (after k (if◌then◌else◌ b (Err R.LedgerMalformed) (if◌then◌else◌ (not (is_date d)) (Err R.NotADate) (if◌then◌else◌ (leb (length u / 16) k) (Err R.LedgerFull) (Ok (k + 1)))))
           h (if◌then◌else◌ b u (if◌then◌else◌ (not (is_date d)) u (if◌then◌else◌ (leb (length u / 16) k) u (with_line u k (keep_line d))))))
       go true e = refuses R.LedgerMalformed
       go false e =
@@ -186,11 +185,11 @@ module _ (h t u : List ℕ) (n k : ℕ) (a : Alike t n u k) where
   line-amended c l Keep = refuses R.LastIsKeep
   line-amended c l Withdrawal = refuses R.NothingStands
 
-  last-amended : (c : ℕ) (f g : Found) → found_lines g ≡ found_lines f → Follows (after_outcome n (last_amended h t n c f)) (after_outcome k (last_amended h u k c g))
-  last-amended c Nothing Nothing e = refuses R.NothingStands
-  last-amended c (At i l) (At j x) e = let q : x ≡ l = cc in rw q (line-amended c l l.kind)
-  last-amended c Nothing (At j x) e = let z : ◌≡◌ {A = ℕ} 0 1 = cc in absurd (omega arith)
-  last-amended c (At i l) Nothing e = let z : ◌≡◌ {A = ℕ} 0 1 = cc in absurd (omega arith)
+  last-amended : (c : ℕ) (f g : Option Found) → found_lines g ≡ found_lines f → Follows (after_outcome n (last_amended h t n c f)) (after_outcome k (last_amended h u k c g))
+  last-amended c None None e = refuses R.NothingStands
+  last-amended c (Some fd) (Some fd1) e = let q : fd1.line ≡ fd.line = cc in rw q (line-amended c fd.line fd.line.kind)
+  last-amended c None (Some fd) e = let z : ◌≡◌ {A = ℕ} 0 1 = cc in absurd (omega arith)
+  last-amended c (Some fd) None e = let z : ◌≡◌ {A = ℕ} 0 1 = cc in absurd (omega arith)
 
   amend-follows : (c : ℕ) → Follows (step (amend c) (state_of h t n)) (step (amend c) (state_of h u k))
   unfolding step
@@ -206,8 +205,8 @@ module _ (h t u : List ℕ) (n k : ℕ) (a : Alike t n u k) where
     where
       go : (b : Bool) → ledger_malformed t n ≡ b
           → Follows
-          (after n (if◌then◌else◌ b (L.Refused R.LedgerMalformed) (L.Accepted (length (standing (lines_of n t))))) h (if◌then◌else◌ b t (compacted (lines_of n t) (drop (n * 16) t))))
-          (after k (if◌then◌else◌ b (L.Refused R.LedgerMalformed) (L.Accepted (length (standing (lines_of k u))))) h (if◌then◌else◌ b u (compacted (lines_of k u) (drop (k * 16) u))))
+          (after n (if◌then◌else◌ b (Err R.LedgerMalformed) (Ok (length (standing (lines_of n t))))) h (if◌then◌else◌ b t (compacted (lines_of n t) (drop (n * 16) t))))
+          (after k (if◌then◌else◌ b (Err R.LedgerMalformed) (Ok (length (standing (lines_of k u))))) h (if◌then◌else◌ b u (compacted (lines_of k u) (drop (k * 16) u))))
       go true e = refuses R.LedgerMalformed
       go false e = λ x. record { answer = refl; states = record { held = refl; alike = alike-compacted a e } }
 
@@ -242,7 +241,7 @@ pub compacted-equivalent : (s : State) → Equivalent s (step compact s).state
 compacted-equivalent s = rw (compact-step s, compact-answer s.ledger s.lines, compact-bytes s.ledger s.lines) (go (ledger_malformed s.ledger s.lines) refl)
   where
     go : (b : Bool) → ledger_malformed s.ledger s.lines ≡ b
-        → Equivalent s (after s.lines (if◌then◌else◌ b (L.Refused R.LedgerMalformed) (L.Accepted (length (standing (lines_of s.lines s.ledger))))) s.held (if◌then◌else◌ b s.ledger (compacted (lines_of s.lines s.ledger) (drop (s.lines * 16) s.ledger)))).state
+        → Equivalent s (after s.lines (if◌then◌else◌ b (Err R.LedgerMalformed) (Ok (length (standing (lines_of s.lines s.ledger))))) s.held (if◌then◌else◌ b s.ledger (compacted (lines_of s.lines s.ledger) (drop (s.lines * 16) s.ledger)))).state
     go true e = record { held = refl; alike = alike-itself s.ledger s.lines }
     go false e = record { held = refl; alike = alike-first s.ledger s.lines e }
 
@@ -276,7 +275,7 @@ compact-twice s = go (ledger_malformed t n) refl
         ap (λ (x : Step State). step compact x.state) refuses
     go false e =
         let well : ledger_malformed u k ≡ false = (alike-first t n e).malformed ∙ e in
-        let once : step compact s ≡ after k (L.Accepted k) s.held u = compact-step s ∙ rw (compact-answer t n, compact-bytes t n, e) in
-        let twice : step compact (state_of s.held u k) ≡ after k (L.Accepted k) s.held u =
+        let once : step compact s ≡ after k (Ok k) s.held u = compact-step s ∙ rw (compact-answer t n, compact-bytes t n, e) in
+        let twice : step compact (state_of s.held u k) ≡ after k (Ok k) s.held u =
         compact-step (state_of s.held u k) ∙ rw (compact-answer u k, compact-bytes u k, well, (compacted-twice t n e).0, (compacted-twice t n e).1) in
         ap (λ (x : Step State). step compact x.state) once ∙ twice ∙ sym once

@@ -1,13 +1,13 @@
 -- The proof of demand 3 (specs/Demand3.antt).
 -- Assumes nothing.
+use Rattle.std.specs.Prelude.{Some, Ok}
 use mathlib.Core.Path.{◌≡◌, refl, sym, ◌∙◌}
 use mathlib.Core.List.{List, [], ◌∷◌, map, reverse, reverse-cons, map-append}
 use Prim.Native.Nat.{ℕ, ◌<◌}
 use lib.ListN.{length, get_or}
 use Rattle.layout.specs.declared.Form.{Form}
-use Rattle.writer.specs.declared.AskedForm.TheVariants as F
-use Rattle.opening.specs.declared.OpenAnswer.TheVariants.{Opened}
-use Rattle.opening.specs.Open.{open_answer}
+use Rattle.layout.specs.Layout.{frame_read}
+use Rattle.opening.specs.Open.{opened, open_answer}
 use Rattle.lists.specs.Bytes.{held_bytes}
 use Rattle.ledger.specs.Lines.{lines_of, lines_bytes}
 use Rattle.ledger.proofs.StandingLaws.{stack, standing-is}
@@ -72,7 +72,7 @@ demand3-opened bytes pixels held ledger form byte opened cs counted =
 -- The same where the form was asked for. Bytes are below 256 and counts have 32 bits, as the public functions take them.
 pub demand3 : (bytes pixels held ledger : List ℕ) (form : Form) (rows columns end n : ℕ)
     → ((i : ℕ) → get_or bytes i 0 < 256)
-    → open_answer bytes pixels (F.Listed form) (length held) ≡ Opened rows columns end n
+    → open_answer bytes pixels (Some form) (length held) ≡ Ok (opened (frame_read rows columns end) (Ok n))
     → (cs : List Call)
     → AllCounted cs
     → (let o = opening_of bytes pixels form held ledger in

@@ -12,7 +12,6 @@ use borrow.Author.Tests.{ne_eqb}
 use Rattle.std.specs.Prelude.{if◌then◌else◌}
 use Rattle.refusal.specs.declared.Refusal.TheVariants as R
 use Rattle.layout.specs.declared.Form.{Form}
-use Rattle.writer.specs.declared.AskedForm.TheVariants as F
 use Rattle.calendar.specs.declared.Date.{Date}
 use Rattle.calendar.specs.Calendar.{is_date, before}
 use Rattle.ledger.specs.declared.Line.{Line}

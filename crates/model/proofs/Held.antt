@@ -1,5 +1,6 @@
 -- What a held buffer with a written frame gives, by the read-back.
 -- Assumes nothing.
+use Rattle.std.specs.Prelude.{Ok, Some}
 use mathlib.Core.Path.{◌≡◌, refl, sym, ap, ◌∙◌}
 use mathlib.Core.Bool.{Bool, true, false}
 use mathlib.Core.List.{List, [], ◌∷◌}
@@ -14,9 +15,7 @@ use Rattle.layout.specs.declared.BinaryTables.{BinaryTables}
 use Rattle.layout.specs.declared.Tables.TheVariants as T
 use Rattle.layout.specs.declared.Header.{Header}
 use Rattle.layout.specs.Layout.{pixel_count}
-use Rattle.header.specs.declared.HeaderAnswer.TheVariants as A
 use Rattle.header.specs.Header.{header_of}
-use Rattle.writer.specs.declared.AskedForm.TheVariants as F
 use Rattle.writer.specs.Writer.{frame, writer_frame}
 use Rattle.readback.specs.Held.{held_count, held_form, held_pixels, is_held}
 use Rattle.readback.proofs.ReadBack.{writer-back}
@@ -48,7 +47,7 @@ pixels-set {n} {vs} v p c h = record { size = length-set vs p c ∙ v.size; smal
 
 -- f is the writer's frame for the pixels, and the held buffer has room for it
 pub record Fits (o : Opening) (vs f : List ℕ) : Type 0 where
-  pub made : writer_frame o.header (F.Listed o.form) vs ≡ frame f
+  pub made : writer_frame o.header (Some o.form) vs ≡ frame f
   pub room : length f ≤ o.held_length
 
 -- the pixels decide the frame
@@ -59,7 +58,7 @@ same-frame o vs f g a b = let e : frame f ≡ frame g = sym a.made ∙ b.made in
 pub record Given (o : Opening) : Type 0 where
   pub header : Header
   pub tables : BinaryTables
-  pub accepted : header_of o.header ≡ A.Accepted header
+  pub accepted : header_of o.header ≡ Ok header
   pub binary : header.tables ≡ T.Format100 tables
   pub count : length o.pixels ≡ pixel_count header.image
 
@@ -83,7 +82,7 @@ module _ (o : Opening) (vs f : List ℕ) (p : Pixels (length o.pixels) vs) (fits
   pub held-pixels : held_pixels held_now ≡ vs
   held-pixels = pixels-held o.header g.header g.tables g.accepted g.binary o.form vs all p.small f fits.made o.held_length
 
-  pub held-form : held_form held_now ≡ F.Listed o.form
+  pub held-form : held_form held_now ≡ Some o.form
   held-form = form-held o.header g.header g.tables g.accepted g.binary o.form vs all p.small f fits.made o.held_length
 
   -- 19 is not due
@@ -91,7 +90,7 @@ module _ (o : Opening) (vs f : List ℕ) (p : Pixels (length o.pixels) vs) (fits
   is-held = frame-held o.header g.header g.tables g.accepted g.binary o.form vs all p.small f fits.made o.held_length
 
   -- the frame with another count in one pixel
-  pub changed-is : (ledger : List ℕ) (lines pixel count : ℕ) → changed held_now ledger lines pixel count ≡ writer_frame o.header (F.Listed o.form) (set vs pixel count)
+  pub changed-is : (ledger : List ℕ) (lines pixel count : ℕ) → changed held_now ledger lines pixel count ≡ writer_frame o.header (Some o.form) (set vs pixel count)
   changed-is ledger lines pixel count =
       rw (held-form, held-pixels)
       (writer-back o.header g.header g.tables g.accepted g.binary o.form vs all p.small f fits.made o.held_length (set vs pixel count))

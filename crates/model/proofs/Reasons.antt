@@ -1,24 +1,23 @@
 -- Request A11 over further calls: withdrawals that take the named line leave an earlier one named, or none; compaction leaves the same one named; and the held
 -- frame has the count that the answer for a pixel says.
 -- Assumes nothing.
+use Rattle.ledger.specs.Standing.{line_found}
+use Rattle.ledger.specs.declared.Found.{Found}
 use mathlib.Core.Path.{◌≡◌, refl, sym, ap, ◌∙◌}
 use mathlib.Core.Bool.{Bool, true, false, not}
 use mathlib.Core.List.{List, [], ◌∷◌, ◌++◌, append_assoc, append-nil}
-use Prim.Native.Nat.{ℕ, zero, suc, ◌+◌, ◌^◌, ◌≤◌, ◌<◌}
+use Prim.Native.Nat.{ℕ, zero, suc, ◌^◌, ◌≤◌, ◌<◌}
 use native.Mathlib.Omega.{arith}
 use lib.ListN.{length, get_or}
 use lib.Seq.{get_or-set_same, get_or-set_other}
 use lib.Dec.{eqb}
 use borrow.Author.Tests.{ne_eqb, eqb-true, eqb-false}
-use Rattle.std.specs.Prelude.{if◌then◌else◌}
+use Rattle.std.specs.Prelude.{if◌then◌else◌, Some, Err, None, Option, Ok}
 use Rattle.refusal.specs.declared.Refusal.TheVariants as R
 use Rattle.layout.specs.declared.Form.{Form}
-use Rattle.writer.specs.declared.AskedForm.TheVariants as F
 use Rattle.calendar.specs.declared.Date.{Date}
 use Rattle.calendar.specs.Calendar.{is_date, before}
 use Rattle.ledger.specs.declared.Line.{Line}
-use Rattle.ledger.specs.declared.Found.{Found}
-use Rattle.ledger.specs.declared.Found.TheVariants.{At, Nothing}
 use Rattle.ledger.specs.Lines.{lines_of}
 use Rattle.ledger.specs.Standing.{keeps, corrects, last_standing}
 use Rattle.ledger.specs.Ledger.{ledger_malformed}
@@ -30,15 +29,14 @@ use Rattle.archive.specs.Calls.{withdrawal_line}
 use Rattle.archive.proofs.Outcomes.{withdraw-view, back-answer, back-ledger}
 use Rattle.why.specs.declared.Numbered.{Numbered}
 use Rattle.why.specs.declared.DayAnswer.TheVariants as D
-use Rattle.why.specs.declared.PixelAnswer.TheVariants as P
 use Rattle.why.specs.Why.{numbered, day_by, day_reason, pixel_by, pixel_reason}
 use Rattle.why.specs.Theorems.{number_in, stands_at}
 use Rattle.why.proofs.Deciding.{named_in, found-decides, AllWithdraw, number-falls}
 use Rattle.why.proofs.Answers.{Names, day-tests, pixel-tests, day-by, pixel-by, day-named, pixel-named}
 use Rattle.model.specs.Model.{Call, withdraw, accepted, run, Entry, corrected, kept, Opening, pixels_with}
 use Rattle.model.specs.Ledger.{Ledger, ledger_bytes}
-use Rattle.opening.specs.declared.OpenAnswer.TheVariants.{Opened}
-use Rattle.opening.specs.Open.{open_answer}
+use Rattle.layout.specs.Layout.{frame_read}
+use Rattle.opening.specs.Open.{opened, open_answer}
 use Rattle.model.specs.Run.{State, step, opening_of, AllCounted, OpenedIn, in-asked}
 use Rattle.model.specs.Theorems.{lines_at, withdrawals, AllAccepted, DayEarlier, PixelEarlier, day_unnumbered, pixel_unnumbered, ReasonsUnobservable, count_said, CountsExplained}
 use Rattle.model.proofs.Held.{Given, held-pixels}
@@ -121,29 +119,29 @@ pixel-earlier pixel s d index count named number accept gone =
 same-day : {t u : List ℕ} {n k : ℕ} → Alike t n u k → (day : Date) → day_unnumbered (day_reason u k day) ≡ day_unnumbered (day_reason t n day)
 same-day {t} {u} {n} {k} a day = rw (day-tests t n day, day-tests u k day, a.malformed) (go (ledger_malformed t n) (not (is_date day)))
   where
-    one : (i : ℕ) (l : Line) → day_unnumbered (day_by day (At i l)) ≡ day_unnumbered (day_by day (At 0 l))
+    one : (i : ℕ) (l : Line) → day_unnumbered (day_by day (Some (line_found i l))) ≡ day_unnumbered (day_by day (Some (line_found 0 l)))
     one i l = by (before l.date day)
       where
-        by : (b : Bool) → day_unnumbered (if◌then◌else◌ b (D.Allowed (numbered i l)) (D.NotYet (numbered i l))) ≡ day_unnumbered (if◌then◌else◌ b (D.Allowed (numbered 0 l)) (D.NotYet (numbered 0 l)))
+        by : (b : Bool) → day_unnumbered (if◌then◌else◌ b (Ok (D.Allowed (numbered i l))) (Ok (D.NotYet (numbered i l)))) ≡ day_unnumbered (if◌then◌else◌ b (Ok (D.Allowed (numbered 0 l))) (Ok (D.NotYet (numbered 0 l))))
         by true = refl
         by false = refl
 
     go : (b c : Bool)
-        → day_unnumbered (if◌then◌else◌ b (D.Refused R.LedgerMalformed) (if◌then◌else◌ c (D.Refused R.NotADate) (day_by day (last_standing keeps 0 (lines_of k u)))))
-        ≡ day_unnumbered (if◌then◌else◌ b (D.Refused R.LedgerMalformed) (if◌then◌else◌ c (D.Refused R.NotADate) (day_by day (last_standing keeps 0 (lines_of n t)))))
+        → day_unnumbered (if◌then◌else◌ b (Err R.LedgerMalformed) (if◌then◌else◌ c (Err R.NotADate) (day_by day (last_standing keeps 0 (lines_of k u)))))
+        ≡ day_unnumbered (if◌then◌else◌ b (Err R.LedgerMalformed) (if◌then◌else◌ c (Err R.NotADate) (day_by day (last_standing keeps 0 (lines_of n t)))))
     go true c = refl
     go false true = refl
-    go false false = same-found (λ f. day_unnumbered (day_by day f)) (λ l. day_unnumbered (day_by day (At 0 l))) one (last_standing keeps 0 (lines_of n t)) (last_standing keeps 0 (lines_of k u)) (alike-last a keeps)
+    go false false = same-found (λ f. day_unnumbered (day_by day f)) (λ l. day_unnumbered (day_by day (Some (line_found 0 l)))) one (last_standing keeps 0 (lines_of n t)) (last_standing keeps 0 (lines_of k u)) (alike-last a keeps)
 
 same-pixel : {t u : List ℕ} {n k : ℕ} → Alike t n u k → (pixel : ℕ) → pixel_unnumbered (pixel_reason u k pixel) ≡ pixel_unnumbered (pixel_reason t n pixel)
 same-pixel {t} {u} {n} {k} a pixel = rw (pixel-tests t n pixel, pixel-tests u k pixel, a.malformed) (go (ledger_malformed t n))
   where
     go : (b : Bool)
-        → pixel_unnumbered (if◌then◌else◌ b (P.Refused R.LedgerMalformed) (pixel_by (last_standing (corrects pixel) 0 (lines_of k u))))
-        ≡ pixel_unnumbered (if◌then◌else◌ b (P.Refused R.LedgerMalformed) (pixel_by (last_standing (corrects pixel) 0 (lines_of n t))))
+        → pixel_unnumbered (if◌then◌else◌ b (Err R.LedgerMalformed) (pixel_by (last_standing (corrects pixel) 0 (lines_of k u))))
+        ≡ pixel_unnumbered (if◌then◌else◌ b (Err R.LedgerMalformed) (pixel_by (last_standing (corrects pixel) 0 (lines_of n t))))
     go true = refl
     go false =
-        same-found (λ f. pixel_unnumbered (pixel_by f)) (λ l. pixel_unnumbered (pixel_by (At 0 l))) (λ i l. refl)
+        same-found (λ f. pixel_unnumbered (pixel_by f)) (λ l. pixel_unnumbered (pixel_by (Some (line_found 0 l)))) (λ i l. refl)
         (last_standing (corrects pixel) 0 (lines_of n t)) (last_standing (corrects pixel) 0 (lines_of k u)) (alike-last a (corrects pixel))
 
 pub reasons-unobservable : ReasonsUnobservable
@@ -156,9 +154,9 @@ abbrev new_in : List Line → ℕ → ℕ
 new_in [] opened = opened
 new_in (l ∷ ls) opened = l.new
 
-said-found : (f : Found) (opened : ℕ) → count_said (pixel_by f) opened ≡ new_in (found_lines f) opened ∷ []
-said-found Nothing opened = refl
-said-found (At i l) opened = refl
+said-found : (f : Option Found) (opened : ℕ) → count_said (pixel_by f) opened ≡ new_in (found_lines f) opened ∷ []
+said-found None opened = refl
+said-found (Some fd) opened = refl
 
 -- the stack's uppermost correction of a pixel says its count
 set-by : (opened : List ℕ) (p : ℕ) → p < length opened → (es : List Entry) → new_in (first_where (corrects p) (line_stack opened es)) (get_or opened p 0) ≡ get_or (pixels_with opened es) p 0
@@ -191,7 +189,7 @@ counts-explained-opened bytes pixels held ledger form byte opened cs counted =
 
 -- where the form was asked for
 pub counts-explained : (bytes pixels held ledger : List ℕ) (form : Form) (rows columns end n : ℕ) (byte : (i : ℕ) → get_or bytes i 0 < 256)
-    (opened : open_answer bytes pixels (F.Listed form) (length held) ≡ Opened rows columns end n) (cs : List Call) (counted : AllCounted cs)
+    (opened : open_answer bytes pixels (Some form) (length held) ≡ Ok (opened (frame_read rows columns end) (Ok n))) (cs : List Call) (counted : AllCounted cs)
     → CountsExplained (opening_of bytes pixels form held ledger).pixels (later bytes pixels held ledger form byte (in-asked rows columns end n opened) cs counted)
 counts-explained bytes pixels held ledger form rows columns end n byte opened cs counted =
     counts-explained-opened bytes pixels held ledger form byte (in-asked rows columns end n opened) cs counted

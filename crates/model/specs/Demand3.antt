@@ -1,9 +1,8 @@
 -- Demand 3: after an opening that is accepted, with no line in the ledger, every list of the model's calls gives on real bytes what the
 -- reference model gives (document 01's plain book, with A6's amending, A8's compaction and A14's opening), refused calls included.
-use Rattle.std.specs.Prelude.{ℕ, ◌≤◌, ◌<◌, ◌≡◌, List, map, reverse, length, get_or}
+use Rattle.std.specs.Prelude.{ℕ, ◌≤◌, ◌<◌, ◌≡◌, List, map, reverse, length, get_or, Some}
 use Rattle.lists.specs.Bytes.{held_bytes}
 use Rattle.layout.specs.declared.Form.{Form}
-use Rattle.writer.specs.declared.AskedForm.TheVariants as F
 use Rattle.writer.specs.Writer as Writer
 use Rattle.writer.specs.Writer.{writer_frame}
 use Rattle.readback.specs.Held.{held_form}
@@ -21,11 +20,11 @@ pub record Agreement (o : Opening) (before : List ℕ) (cs : List Call) (real : 
   pub lines : real.state.lines ≡ model.state.lines
   -- the held buffer is the writer's frame, from the opened header and in the form opened in, for the model's pixels, and then zeros
   pub frame : List ℕ
-  pub frame_is : writer_frame o.header (F.Listed o.form) (model_pixels o model.state) ≡ Writer.frame frame
+  pub frame_is : writer_frame o.header (Some o.form) (model_pixels o model.state) ≡ Writer.frame frame
   pub frame-fits : length frame ≤ o.held_length
   pub held : real.state.held ≡ held_bytes o.held_length frame
   -- and its header names that form
-  pub form-named : held_form real.state.held ≡ F.Listed o.form
+  pub form-named : held_form real.state.held ≡ Some o.form
   -- the ledger is the lines that the accepted calls appended and compaction left, in their order, and then the bytes behind them: those at first, and 0
   -- where compaction freed a line
   pub ledger : real.state.ledger ≡ ledger_bytes (ledger_run o cs empty_model (empty_ledger before))

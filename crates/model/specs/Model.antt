@@ -1,13 +1,10 @@
 -- Document 01, "The plain book", with document 02's A6 and A8: the reference model that demand 3 compares with.
-use Rattle.std.specs.Prelude.{ℕ, ◌+◌, ◌/◌, Bool, List, [], ◌∷◌, length, set, if◌then◌else◌}
+use Rattle.std.specs.Prelude.{ℕ, ◌+◌, ◌/◌, Bool, List, [], ◌∷◌, length, set, if◌then◌else◌, Err, Ok, Result, Some}
 use Rattle.std.proofs.Math.Bool.{not}
 use Rattle.std.proofs.Math.Dec.{leb}
 use Rattle.refusal.specs.declared.Refusal.{Refusal}
 use Rattle.refusal.specs.declared.Refusal.TheVariants as R
 use Rattle.layout.specs.declared.Form.{Form}
-use Rattle.writer.specs.declared.AskedForm.TheVariants as F
-use Rattle.writer.specs.declared.WriteAnswer.{WriteAnswer}
-use Rattle.writer.specs.declared.WriteAnswer.TheVariants as W
 use Rattle.writer.specs.Writer.{write_answer}
 use Rattle.calendar.specs.declared.Date.{Date}
 use Rattle.calendar.specs.Calendar.{is_date, before}
@@ -88,9 +85,9 @@ abbrev pub accept : ℕ → List Entry → Step Model
 accept lines es = record { reply = record { answer = accepted; lines = lines }; state = record { stack = es; lines = lines } }
 
 -- by what the writer gives: 17 or 18; otherwise so many lines are used, and the correction goes on top of the entries below it
-abbrev pub corrected_by : Model → ℕ → List Entry → ℕ → ℕ → WriteAnswer → Step Model
-corrected_by m lines below pixel count (W.Written n) = accept lines (corrected pixel count ∷ below)
-corrected_by m lines below pixel count (W.Refused r) = refuse m r
+abbrev pub corrected_by : Model → ℕ → List Entry → ℕ → ℕ → Result ℕ Refusal → Step Model
+corrected_by m lines below pixel count (Ok n) = accept lines (corrected pixel count ∷ below)
+corrected_by m lines below pixel count (Err r) = refuse m r
 
 -- by the uppermost keep date: 26 if there is none, 27 if it is not before the day asked
 unfoldable pub asked_of : Date → List Entry → Answer
@@ -113,8 +110,8 @@ module _ (o : Opening) where
   model_pixels m = pixels_with o.pixels m.stack
 
   -- what the writer answers for pixels
-  abbrev pub written : List ℕ → WriteAnswer
-  written vs = write_answer o.header (F.Listed o.form) vs o.held_length
+  abbrev pub written : List ℕ → Result ℕ Refusal
+  written vs = write_answer o.header (Some o.form) vs o.held_length
 
   -- by the stack: 22 if it is empty; 21; otherwise the top entry goes
   abbrev pub withdrawn_from : Model → List Entry → Step Model

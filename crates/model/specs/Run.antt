@@ -1,24 +1,19 @@
 -- The calls on real bytes, by the definitions that the public contracts cite.
-use Rattle.std.specs.Prelude.{ℕ, ◌<◌, ◌≡◌, Bool, true, false, List, [], ◌∷◌, length, take, if◌then◌else◌}
+use Rattle.refusal.specs.declared.Refusal.{Refusal}
+use Rattle.layout.specs.declared.Header.{Header}
+use Rattle.std.specs.Prelude.{ℕ, ◌<◌, ◌≡◌, Bool, true, false, List, [], ◌∷◌, length, take, if◌then◌else◌, Err, Ok, Result, Some}
 use Rattle.layout.specs.declared.Form.{Form}
-use Rattle.header.specs.declared.HeaderAnswer.{HeaderAnswer}
-use Rattle.header.specs.declared.HeaderAnswer.TheVariants as A
 use Rattle.header.specs.Header.{header_of}
 use Rattle.reader.specs.Reader.{read_pixels}
-use Rattle.writer.specs.declared.AskedForm.TheVariants as F
 use Rattle.readback.specs.Held.{count_by}
 use Rattle.calendar.specs.declared.Date.{Date}
 use Rattle.ledger.specs.declared.Line.{Line}
-use Rattle.ledger.specs.declared.LedgerAnswer.{LedgerAnswer}
-use Rattle.ledger.specs.declared.LedgerAnswer.TheVariants as L
-use Rattle.ledger.specs.declared.PurgeAnswer.{PurgeAnswer}
-use Rattle.ledger.specs.declared.PurgeAnswer.TheVariants as P
 use Rattle.calendar.specs.Calendar.{before}
 use Rattle.ledger.specs.Standing.{keeps}
 use Rattle.ledger.specs.Ledger.{keep_answer, keep_bytes, purge_answer}
 use Rattle.compaction.specs.Compact.{compact_answer, compact_bytes}
-use Rattle.opening.specs.declared.OpenAnswer.TheVariants.{Opened}
-use Rattle.opening.specs.Open.{open_answer, open_held, smallest_opened}
+use Rattle.layout.specs.Layout.{frame_read}
+use Rattle.opening.specs.Open.{opened, open_answer, open_held, smallest_opened}
 use Rattle.archive.specs.Calls.{Outcome, correct_outcome, withdraw_outcome, amend_outcome}
 use Rattle.model.specs.Model.{Call, correct, keep, withdraw, amend, compact, may_purge, Answer, accepted, refused, Step, Opening}
 
@@ -31,21 +26,21 @@ pub record State : Type 0 where
 abbrev pub state_of : List ℕ → List ℕ → ℕ → State
 state_of held ledger lines = record { held = held; ledger = ledger; lines = lines }
 
-abbrev pub answered : LedgerAnswer → Answer
-answered (L.Accepted n) = accepted
-answered (L.Refused r) = refused r
+abbrev pub answered : Result ℕ Refusal → Answer
+answered (Ok n) = accepted
+answered (Err r) = refused r
 
 -- the number of lines that a call gives: after a refusal the same
-abbrev pub lines_after : ℕ → LedgerAnswer → ℕ
-lines_after lines (L.Accepted n) = n
-lines_after lines (L.Refused r) = lines
+abbrev pub lines_after : ℕ → Result ℕ Refusal → ℕ
+lines_after lines (Ok n) = n
+lines_after lines (Err r) = lines
 
-abbrev pub purged : PurgeAnswer → Answer
-purged P.Allowed = accepted
-purged (P.Refused r) = refused r
+abbrev pub purged : Result (Unit {0}) Refusal → Answer
+purged (Ok tt) = accepted
+purged (Err r) = refused r
 
 -- a call that answered, with the held buffer and the ledger after it
-abbrev pub after : ℕ → LedgerAnswer → List ℕ → List ℕ → Step State
+abbrev pub after : ℕ → Result ℕ Refusal → List ℕ → List ℕ → Step State
 after lines a held ledger = record {
   reply = record { answer = answered a; lines = lines_after lines a };
   state = state_of held ledger (lines_after lines a);
@@ -64,9 +59,9 @@ step (may_purge day) s =
     record { reply = record { answer = purged (purge_answer s.ledger s.lines day); lines = s.lines }; state = s }
 
 -- the bytes of the header that is accepted from a frame
-abbrev pub header_bytes_by : List ℕ → HeaderAnswer → List ℕ
-header_bytes_by frame (A.Accepted h) = take h.image.start frame
-header_bytes_by frame (A.Refused r) = []
+abbrev pub header_bytes_by : List ℕ → Result Header Refusal → List ℕ
+header_bytes_by frame (Ok h) = take h.image.start frame
+header_bytes_by frame (Err r) = []
 
 -- what an opening feeds the model: the header's own bytes, the N pixels read, the form asked for, and the two lengths
 unfoldable pub opening_of : List ℕ → List ℕ → Form → List ℕ → List ℕ → Opening
@@ -80,12 +75,12 @@ opening_of frame pixels form held ledger = record {
 
 -- An opening that is accepted, in the form asked for or in the smallest (A14): the frame is held in this form.
 pub data OpenedIn (frame pixels held : List ℕ) (form : Form) : Type 0 where
-  in-asked : (rows columns end n : ℕ) → open_answer frame pixels (F.Listed form) (length held) ≡ Opened rows columns end n → OpenedIn frame pixels held form
-  in-smallest : (rows columns end n : ℕ) → smallest_opened frame pixels (length held) ≡ record { form = form; answer = Opened rows columns end n } → OpenedIn frame pixels held form
+  in-asked : (rows columns end n : ℕ) → open_answer frame pixels (Some form) (length held) ≡ Ok (opened (frame_read rows columns end) (Ok n)) → OpenedIn frame pixels held form
+  in-smallest : (rows columns end n : ℕ) → smallest_opened frame pixels (length held) ≡ record { form = form; answer = Ok (opened (frame_read rows columns end) (Ok n)) } → OpenedIn frame pixels held form
 
 -- the state after an opening: no line of the ledger is used, and its bytes may be any
 abbrev pub opened_state : List ℕ → List ℕ → Form → List ℕ → List ℕ → State
-opened_state frame pixels form held ledger = state_of (open_held frame pixels (F.Listed form) held) ledger 0
+opened_state frame pixels form held ledger = state_of (open_held frame pixels (Some form) held) ledger 0
 
 -- a count has 32 bits, as the public functions take it; pixel numbers and the fields of a date may be any
 abbrev pub Counted : Call → Type 0

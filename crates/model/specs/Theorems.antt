@@ -1,9 +1,10 @@
 -- What requests A6, A8 and A11 ask besides demand 3. proofs/Amended.antt, Compacted.antt, Behind.antt and Reasons.antt prove these statements.
-use Rattle.std.specs.Prelude.{ℕ, zero, suc, ◌+◌, ◌*◌, ◌<◌, ◌≡◌, Bool, true, false, List, [], ◌∷◌, map, length, get_or, drop}
+use Rattle.ledger.specs.Standing.{line_found}
+use Rattle.refusal.specs.declared.Refusal.{Refusal}
+use Rattle.std.specs.Prelude.{ℕ, zero, suc, ◌+◌, ◌*◌, ◌<◌, ◌≡◌, Bool, true, false, List, [], ◌∷◌, map, length, get_or, drop, Err, None, Ok, Option, Result, Some}
 use Rattle.refusal.specs.declared.Refusal.TheVariants as R
 use Rattle.calendar.specs.declared.Date.{Date}
 use Rattle.ledger.specs.declared.Line.{Line}
-use Rattle.ledger.specs.declared.Found.TheVariants.{At}
 use Rattle.ledger.specs.Lines.{lines_of}
 use Rattle.ledger.specs.Standing.{keeps, corrects, last_standing, any_line}
 use Rattle.ledger.specs.Ledger.{ledger_malformed}
@@ -11,8 +12,6 @@ use Rattle.readback.specs.Held.{held_pixels}
 use Rattle.why.specs.declared.Numbered.{Numbered}
 use Rattle.why.specs.declared.DayAnswer.{DayAnswer}
 use Rattle.why.specs.declared.DayAnswer.TheVariants as D
-use Rattle.why.specs.declared.PixelAnswer.{PixelAnswer}
-use Rattle.why.specs.declared.PixelAnswer.TheVariants as P
 use Rattle.why.specs.Why.{day_reason, pixel_reason}
 use Rattle.why.specs.Theorems.{day_names, pixel_names, number_in, stands_at}
 use Rattle.model.specs.Model.{Call, correct, keep, withdraw, amend, compact, may_purge, Answer, accepted, refused, Reply, Ran, run, Entry, corrected, Model, Opening, empty_model, model_step}
@@ -40,7 +39,7 @@ AmendIsTwo o =
 -- last standing line's pixel.
 abbrev pub AmendLeavesTwo : State → Type 0
 AmendLeavesTwo s =
-    (count : ℕ) → count < 4294967296 → (i : ℕ) (l : Line) → last_standing any_line 0 (lines_of s.lines s.ledger) ≡ At i l
+    (count : ℕ) → count < 4294967296 → (i : ℕ) (l : Line) → last_standing any_line 0 (lines_of s.lines s.ledger) ≡ Some (line_found i l)
     → (step (amend count) s).reply.answer ≡ accepted → (run step (back_and_anew l.pixel count) s).state ≡ (step (amend count) s).state
 
 -- A8: what a run gave back without the numbers of lines
@@ -89,10 +88,10 @@ BehindStays =
     → (let g = ledger_run o cs empty_model (empty_ledger before) in g.behind ≡ drop (length g.lines * 16) before)
 
 -- A11: what the ledger of a state answers, and its lines
-abbrev pub day_at : Date → State → DayAnswer
+abbrev pub day_at : Date → State → Result DayAnswer Refusal
 day_at day s = day_reason s.ledger s.lines day
 
-abbrev pub pixel_at : ℕ → State → PixelAnswer
+abbrev pub pixel_at : ℕ → State → Result (Option Numbered) Refusal
 pixel_at pixel s = pixel_reason s.ledger s.lines pixel
 
 abbrev pub lines_at : State → List Line
@@ -126,15 +125,15 @@ PixelEarlier = (pixel : ℕ) → NamedEarlier (corrects pixel) (λ (s : State). 
 abbrev pub unnumbered : Numbered → Numbered
 unnumbered d = record { number = 0; line = d.line }
 
-abbrev pub day_unnumbered : DayAnswer → DayAnswer
-day_unnumbered (D.Allowed d) = D.Allowed (unnumbered d)
-day_unnumbered (D.NotYet d) = D.NotYet (unnumbered d)
-day_unnumbered (D.Refused r) = D.Refused r
+abbrev pub day_unnumbered : Result DayAnswer Refusal → Result DayAnswer Refusal
+day_unnumbered (Ok (D.Allowed d)) = Ok (D.Allowed (unnumbered d))
+day_unnumbered (Ok (D.NotYet d)) = Ok (D.NotYet (unnumbered d))
+day_unnumbered (Err r) = Err r
 
-abbrev pub pixel_unnumbered : PixelAnswer → PixelAnswer
-pixel_unnumbered (P.Corrected d) = P.Corrected (unnumbered d)
-pixel_unnumbered P.AsOpened = P.AsOpened
-pixel_unnumbered (P.Refused r) = P.Refused r
+abbrev pub pixel_unnumbered : Result (Option Numbered) Refusal → Result (Option Numbered) Refusal
+pixel_unnumbered (Ok (Some d)) = Ok (Some (unnumbered d))
+pixel_unnumbered (Ok None) = Ok None
+pixel_unnumbered (Err r) = Err r
 
 abbrev pub ReasonsUnobservable : Type 0
 ReasonsUnobservable =
@@ -143,10 +142,10 @@ ReasonsUnobservable =
     × ((pixel : ℕ) → pixel_unnumbered (pixel_at pixel (step compact s).state) ≡ pixel_unnumbered (pixel_at pixel s))
 
 -- the count that an answer for a pixel says it has: the new one of the correction named, or the opened one
-abbrev pub count_said : PixelAnswer → ℕ → List ℕ
-count_said (P.Corrected d) opened = d.line.new ∷ []
-count_said P.AsOpened opened = opened ∷ []
-count_said (P.Refused r) opened = []
+abbrev pub count_said : Result (Option Numbered) Refusal → ℕ → List ℕ
+count_said (Ok (Some d)) opened = d.line.new ∷ []
+count_said (Ok None) opened = opened ∷ []
+count_said (Err r) opened = []
 
 -- each pixel of the held frame has the count that its answer says; where the opened pixels are these
 abbrev pub CountsExplained : List ℕ → State → Type 0

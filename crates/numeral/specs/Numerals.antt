@@ -1,19 +1,17 @@
 -- Document 01, "The header": numbers, versions and decimal numbers as they are written.
-use Rattle.std.specs.Prelude.{ℕ, ◌+◌, List, [], ◌∷◌, Bool, true, ◌&&◌, length, take, drop, get_or, eqb, leb, if◌then◌else◌}
+use Rattle.std.specs.Prelude.{ℕ, ◌+◌, List, [], ◌∷◌, Bool, true, ◌&&◌, length, take, drop, get_or, eqb, leb, if◌then◌else◌, None, Option, Some}
 use Rattle.lists.specs.Digits.{all_digits, value_from}
 use Rattle.numeral.specs.declared.Class.TheVariants.{Digit, Plus}
-use Rattle.numeral.specs.declared.Number.{Number}
-use Rattle.numeral.specs.declared.Number.TheVariants.{Value, NotANumber}
 use Rattle.numeral.specs.Runs.{in_class, leading, passed}
 
 -- digits alone that make v a number of at most 4,294,967,295
-unfoldable pub number_from : ℕ → List ℕ → Number
-number_from v bs = if all_digits bs && leb (value_from v bs) 4294967295 then Value (value_from v bs) else NotANumber
+unfoldable pub number_from : ℕ → List ℕ → Option ℕ
+number_from v bs = if all_digits bs && leb (value_from v bs) 4294967295 then Some (value_from v bs) else None
 
 -- a number is one to ten digits, at most 4,294,967,295
-unfoldable pub number_of : List ℕ → Number
+unfoldable pub number_of : List ℕ → Option ℕ
 unfolding number_from
-number_of f = if leb 1 (length f) && leb (length f) 10 then number_from 0 f else NotANumber
+number_of f = if leb 1 (length f) && leb (length f) 10 then number_from 0 f else None
 
 -- where the digits at the front end, and where the plus signs after them end
 abbrev pub digits_end : List ℕ → ℕ
@@ -23,12 +21,12 @@ abbrev pub plus_end : List ℕ → ℕ
 plus_end f = passed (in_class Plus) f (digits_end f)
 
 -- a version is one or two digits, then none, one or two plus signs
-unfoldable pub version_of : List ℕ → Number
+unfoldable pub version_of : List ℕ → Option ℕ
 unfolding leading number_of
 version_of f =
     if leb (digits_end f) 2 && (leb (length f) (plus_end f) && leb (plus_end f) (digits_end f + 2))
     then number_of (take (digits_end f) f)
-    else NotANumber
+    else None
 
 -- the two characters -1
 unfoldable pub is_minus_one : List ℕ → Bool

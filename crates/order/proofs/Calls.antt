@@ -1,15 +1,15 @@
 -- Whatever the calls, each accepted or refused: the held frame's pixels say its bytes.
 -- Assumes nothing.
-use mathlib.Core.Path.{◌≡◌, refl, sym, ◌∙◌}
+use Rattle.ledger.specs.Standing.{line_found}
+use Rattle.ledger.specs.declared.Found.{Found}
+use mathlib.Core.Path.{◌≡◌, ap, refl, sym, ◌∙◌}
 use mathlib.Core.Bool.{Bool, true, false, ◌&&◌}
 use mathlib.Core.List.{List, [], ◌∷◌}
 use Prim.Native.Nat.{ℕ, suc, ◌<◌}
 use native.Mathlib.Omega.{arith}
 use lib.ListN.{set}
-use Rattle.std.specs.Prelude.{if◌then◌else◌}
+use Rattle.std.specs.Prelude.{if◌then◌else◌, None, Option, Some}
 use Rattle.ledger.specs.declared.Line.{Line}
-use Rattle.ledger.specs.declared.Found.{Found}
-use Rattle.ledger.specs.declared.Found.TheVariants.{At, Nothing}
 use Rattle.ledger.specs.Lines.{lines_of}
 use Rattle.ledger.specs.Standing.{stands, or_else, last_standing, any_line}
 use Rattle.ledger.specs.Ledger.{ledger_malformed}
@@ -30,21 +30,21 @@ data Leaves (s : State) (b : List ℕ) : Type 0 where
   changed : (p c : ℕ) (added : List Line) (out : Outcome) → c < 4294967296 → Changed s.held s.ledger s.lines p c added out → b ≡ out.held → Leaves s b
 
 -- what is found in lines is as each of them
-found-each : (P : Line → Type 0) (test : Line → Bool) (i : ℕ) (ls : List Line) → Each P ls → (j : ℕ) (l : Line) → last_standing test i ls ≡ At j l → P l
+found-each : (P : Line → Type 0) (test : Line → Bool) (i : ℕ) (ls : List Line) → Each P ls → (j : ℕ) (l : Line) → last_standing test i ls ≡ Some (line_found j l) → P l
 unfolding last_standing
 found-each P test i [] h j l e = let z : ◌≡◌ {A = ℕ} 0 1 = cc in absurd (omega arith)
 found-each P test i (x ∷ ls) h j l e = go (stands x ls && test x) e (found-each P test (suc i) ls h.1 j l)
   where
-    or : (f : Found) → last_standing test (suc i) ls ≡ f → (last_standing test (suc i) ls ≡ At j l → P l) → or_else f (At i x) ≡ At j l → P l
-    or (At k y) q ih r = ih (q ∙ r)
-    or Nothing q ih r = let y : x ≡ l = cc in rw y at h.0
+    or : (f : Option Found) → last_standing test (suc i) ls ≡ f → (last_standing test (suc i) ls ≡ Some (line_found j l) → P l) → or_else f (Some (line_found i x)) ≡ Some (line_found j l) → P l
+    or (Some fd) q ih r = ih (q ∙ r)
+    or None q ih r = let f : line_found i x ≡ line_found j l = cc in let y : x ≡ l = ap (λ (g : Found). g.line) f in rw y at h.0
 
-    go : (b : Bool) → if◌then◌else◌ b (or_else (last_standing test (suc i) ls) (At i x)) (last_standing test (suc i) ls) ≡ At j l → (last_standing test (suc i) ls ≡ At j l → P l) → P l
+    go : (b : Bool) → if◌then◌else◌ b (or_else (last_standing test (suc i) ls) (Some (line_found i x))) (last_standing test (suc i) ls) ≡ Some (line_found j l) → (last_standing test (suc i) ls ≡ Some (line_found j l) → P l) → P l
     go true r ih = or (last_standing test (suc i) ls) refl ih r
     go false r ih = ih r
 
 -- the old count of a line that is found has 32 bits
-old-small : (t : List ℕ) (n : ℕ) → ledger_malformed t n ≡ false → (i : ℕ) (l : Line) → last_standing any_line 0 (lines_of n t) ≡ At i l → l.old < 4294967296
+old-small : (t : List ℕ) (n : ℕ) → ledger_malformed t n ≡ false → (i : ℕ) (l : Line) → last_standing any_line 0 (lines_of n t) ≡ Some (line_found i l) → l.old < 4294967296
 old-small t n well i l e = (found-each Writable any_line 0 (lines_of n t) (lines-writable n t (lines-well t n well)) i l e).sized.old
 
 module _ (s : State) where

@@ -4,14 +4,14 @@ use mathlib.Core.Path.{◌≡◌, refl, sym, ap, ◌∙◌}
 use mathlib.Core.Bool.{Bool, true, false}
 use mathlib.Core.List.{List, [], ◌∷◌, ◌++◌, map, map-append, append-nil, append_assoc}
 use Prim.Native.Nat.{ℕ, suc, ◌+◌, ◌-◌, ◌*◌, ◌≤◌, ◌<◌}
-use native.Mathlib.Nat.{add-mul, mul-le-mul_right, add-zero}
-use native.Mathlib.Numerals.{add-one}
+use native.Mathlib.Nat.{add-mul, mul-le-mul_right}
 use native.Mathlib.Omega.{arith}
 use borrow.Rule.Slice.PartMut.{put_mid}
-use lib.ListN.{length, get_or, take, drop, length-drop, length-append, length-map, drop_of_length-le}
-use lib.Seq.{take-suc, take-add, take_all, take_at, drop_at, drop-drop, length-take-le}
+use lib.ListN.{length, take, drop, length-drop, length-append, length-map, drop_of_length-le}
+use lib.Seq.{take-add, take_all, take_at, drop_at, drop-drop, length-take-le}
 use lib.Dec.{eqb, ltb}
-use borrow.Author.Tests.{eq-eqb, ne_eqb, lt-ltb, ltb-false}
+use borrow.Author.Tests.{lt-ltb, ltb-false}
+use Rattle.std.specs.List.{list_any}
 use Rattle.table.specs.Table.{entries}
 use Rattle.table.proofs.Laws.{length-entries, entries-part}
 use Rattle.marks.specs.Steps.{count_of}
@@ -28,29 +28,15 @@ unfolding count_of
 count-le m [] = omega arith
 count-le m (x ∷ xs) = omega (arith, count-cons m x xs, one-le m x, count-le m xs)
 
--- the search for a mark among the first i
-pub record Seeking (m : ℕ) (xs : List ℕ) (found : Bool) (i : ℕ) : Type 0 where
-  pub upto : i ≤ length xs
-  pub is : found ≡ ltb 0 (count_of m (take i xs))
-
-pub seeking-start : (m : ℕ) (xs : List ℕ) → Seeking m xs false 0
+-- some element is m where more than none are
+pub any-counted : (m : ℕ) (xs : List ℕ) → list_any (λ y. eqb y m) xs ≡ ltb 0 (count_of m xs)
 unfolding count_of
-seeking-start m xs = record { upto = omega arith; is = refl }
-
-module _ {m : ℕ} {xs : List ℕ} {found : Bool} {i : ℕ} (f : Seeking m xs found i) (h : i < length xs) where
-  more : count_of m (take (i + 1) xs) ≡ count_of m (take i xs) + count_of m (get_or xs i 0 ∷ [])
-  more = rw (add-one, take-suc xs i 0 h, count-append)
-
-  pub seeking-hit : get_or xs i 0 ≡ m → Seeking m xs true (i + 1)
-  unfolding count_of
-  seeking-hit e = record { upto = omega arith; is = rw (more, eq-eqb (get_or xs i 0) m e) (sym (lt-ltb 0 (count_of m (take i xs) + 1) (omega arith))) }
-
-  pub seeking-miss : (get_or xs i 0 ≡ m → ⊥) → Seeking m xs found (i + 1)
-  unfolding count_of
-  seeking-miss e = record { upto = omega arith; is = rw (more, ne_eqb (get_or xs i 0) m e, add-zero (count_of m (take i xs))) f.is }
-
-pub seeking-end : {m : ℕ} {xs : List ℕ} {found : Bool} {i : ℕ} → Seeking m xs found i → length xs ≤ i → found ≡ ltb 0 (count_of m xs)
-seeking-end {m} {xs} {found} {i} f h = rw (take_all i xs h) at f.is
+any-counted m [] = refl
+any-counted m (x ∷ xs) = go (eqb x m) refl (any-counted m xs)
+  where
+    go : (t : Bool) → eqb x m ≡ t → list_any (λ y. eqb y m) xs ≡ ltb 0 (count_of m xs) → list_any (λ y. eqb y m) (x ∷ xs) ≡ ltb 0 (count_of m (x ∷ xs))
+    go true q ih = rw q (sym (lt-ltb 0 (suc (count_of m xs)) (omega arith)))
+    go false q ih = rw q ih
 
 -- a block without a mark stays as it was loaded
 no-mark : (m : ℕ) (xs : List ℕ) → count_of m xs ≡ 0 → map (waiting_if m) xs ≡ xs

@@ -1,5 +1,8 @@
 -- What document 01 says of FORMAT 86 as theorems on the definitions that `expand86` meets.
 -- Assumes nothing.
+use Rattle.marks.specs.Steps.{entry_read}
+use Rattle.marks.specs.declared.Entry.{Entry}
+use Rattle.refusal.specs.declared.Refusal.{Refusal}
 use mathlib.Core.Path.{◌≡◌, refl, sym, ap, ◌∙◌}
 use mathlib.Core.Bool.{Bool, true, false, not, ◌&&◌, ◌||◌}
 use mathlib.Core.List.{List, [], ◌∷◌, map}
@@ -10,10 +13,11 @@ use lib.ListN.{length, get_or, take, drop, get_or-append}
 use lib.Seq.{take-take}
 use lib.Dec.{ltb}
 use borrow.Author.Tests.{lt-ltb, le-ltb, ltb-true, ltb-false}
-use Rattle.std.specs.Prelude.{if◌then◌else◌}
+use Rattle.std.specs.Prelude.{if◌then◌else◌, Err, Ok, Result, None, Option, Some}
 use Rattle.lists.proofs.Tests.{and-true-left, and-true-right}
 use Rattle.lists.specs.Text.{codes}
 use Rattle.lists.proofs.Parts.{drop-take}
+use Rattle.lists.specs.Chain.{on_ok}
 use Rattle.refusal.specs.declared.Refusal.TheVariants as R
 use Rattle.layout.specs.declared.Width.{Width}
 use Rattle.layout.specs.declared.Image.{Image}
@@ -21,20 +25,15 @@ use Rattle.layout.specs.Form.{width_bytes}
 use Rattle.layout.specs.Layout.{pixel_count, image_end, text_end}
 use Rattle.table.specs.Table.{entries}
 use Rattle.table.proofs.Laws.{length-entries, entries-take as stored-take}
-use Rattle.marks.specs.declared.Entry.{Entry}
-use Rattle.marks.specs.declared.Entry.TheVariants as E
-use Rattle.marks.specs.declared.Checked.{Checked}
-use Rattle.marks.specs.declared.Checked.TheVariants as C
-use Rattle.overflow86.specs.declared.Expanded86.TheVariants as X
 use Rattle.overflow86.specs.Entries.{entry_of, text_entries}
 use Rattle.marks.specs.Marks.{is_marked, marked_at, has_entry, first_bad, intensity_at, with_entries}
 use Rattle.marks.proofs.Laws.{with-length, with_at}
 use Rattle.marks.proofs.Facts.{entries_for, all_read, never, has_some, has-none, good-stands, stands_good}
-use Rattle.overflow86.specs.Expand86.{wanting, then_wanting, checked_of, frame_pixels, stored_image, table_entries, answer_by, text_answer, text_pixels}
+use Rattle.overflow86.specs.Expand86.{wanting, then_wanting, checked_of, frame_pixels, stored_image, table_entries, text_answer, text_pixels}
 use Rattle.overflow86.proofs.Texts.{entries-take}
 
 -- every entry is well formed, each marked pixel has exactly one, and no other pixel number has any
-pub record Matched (w : Width) (vs : List ℕ) (es : List Entry) : Type 0 where
+pub record Matched (w : Width) (vs : List ℕ) (es : List (Option Entry)) : Type 0 where
   pub formed : all_read es ≡ true
   pub one : (p : ℕ) → marked_at w vs p ≡ true → entries_for p es ≡ 1
   pub none : (p : ℕ) → marked_at w vs p ≡ false → entries_for p es ≡ 0
@@ -43,7 +42,7 @@ or_right : (a b : Bool) → (a || b) ≡ false → b ≡ false
 or_right true b h = never h
 or_right false b h = h
 
-has_of : (p : ℕ) (es : List Entry) → 1 ≤ entries_for p es → has_entry p es ≡ true
+has_of : (p : ℕ) (es : List (Option Entry)) → 1 ≤ entries_for p es → has_entry p es ≡ true
 has_of p es h = go (has_entry p es) refl
   where
     go : (t : Bool) → has_entry p es ≡ t → has_entry p es ≡ true
@@ -52,7 +51,7 @@ has_of p es h = go (has_entry p es) refl
 
 module _ (w : Width) where
   -- a marked pixel without an entry is wanting
-  none-wanting : (es : List Entry) (i : ℕ) (us : List ℕ) → wanting w es i us ≡ false → (p : ℕ) → p < length us → is_marked w (get_or us p 0) ≡ true → has_entry (i + p) es ≡ true
+  none-wanting : (es : List (Option Entry)) (i : ℕ) (us : List ℕ) → wanting w es i us ≡ false → (p : ℕ) → p < length us → is_marked w (get_or us p 0) ≡ true → has_entry (i + p) es ≡ true
   unfolding wanting
   none-wanting es i [] f p h m = absurd (not-suc-le-zero h)
   none-wanting es i (u ∷ us) f zero h m = rw (add-zero i) (go (has_entry i es) refl)
@@ -64,7 +63,7 @@ module _ (w : Width) where
       let e : i + suc p ≡ suc i + p = omega arith in
       rw e (none-wanting es (suc i) us (or_right (is_marked w u && not (has_entry i es)) (wanting w es (suc i) us) f) p (le_of_suc-le-suc h) m)
 
-  all-had : (es : List Entry) (i : ℕ) (us : List ℕ) → ((p : ℕ) → p < length us → is_marked w (get_or us p 0) ≡ true → has_entry (i + p) es ≡ true) → wanting w es i us ≡ false
+  all-had : (es : List (Option Entry)) (i : ℕ) (us : List ℕ) → ((p : ℕ) → p < length us → is_marked w (get_or us p 0) ≡ true → has_entry (i + p) es ≡ true) → wanting w es i us ≡ false
   unfolding wanting
   all-had es i [] f = refl
   all-had es i (u ∷ us) f = go (is_marked w u) refl (all-had es (suc i) us (λ p h m. let e : suc i + p ≡ i + suc p = omega arith in rw e (f (suc p) (suc-le-suc h) m)))
@@ -75,14 +74,14 @@ module _ (w : Width) where
           rw (q, k, ih)
       go false q ih = rw (q, ih)
 
-then-good : (c : Checked) (t : Bool) → then_wanting c t ≡ C.Good → (c ≡ C.Good) × (t ≡ false)
-then-good C.Good true h = absurd (let y : ◌≡◌ {A = ℕ} 0 1 = cc in omega arith)
-then-good C.Good false h = (refl, refl)
-then-good (C.Refused r) t h = absurd (let y : ◌≡◌ {A = ℕ} 0 1 = cc in omega arith)
+then-good : (c : Result (Unit {0}) Refusal) (t : Bool) → then_wanting c t ≡ Ok tt → (c ≡ Ok tt) × (t ≡ false)
+then-good (Ok tt) true h = absurd (let y : ◌≡◌ {A = ℕ} 0 1 = cc in omega arith)
+then-good (Ok tt) false h = (refl, refl)
+then-good (Err r) t h = absurd (let y : ◌≡◌ {A = ℕ} 0 1 = cc in omega arith)
 
-module _ (w : Width) (vs : List ℕ) (es : List Entry) where
+module _ (w : Width) (vs : List ℕ) (es : List (Option Entry)) where
   -- the entries of an accepted frame: exactly one for each marked pixel and none for another
-  pub accepted-matched : checked_of w vs es ≡ C.Good → Matched w vs es
+  pub accepted-matched : checked_of w vs es ≡ Ok tt → Matched w vs es
   unfolding checked_of
   accepted-matched h =
       let g = then-good (first_bad w vs [] 0 es) (wanting w es 0 vs) h in
@@ -97,10 +96,10 @@ module _ (w : Width) (vs : List ℕ) (es : List Entry) where
       }
 
   -- and each table of which that holds is accepted
-  pub matched-accepted : Matched w vs es → checked_of w vs es ≡ C.Good
+  pub matched-accepted : Matched w vs es → checked_of w vs es ≡ Ok tt
   unfolding checked_of
   matched-accepted m =
-      let f : first_bad w vs [] 0 es ≡ C.Good = stands_good w vs es (record { formed = m.formed; most = λ p. at_most p (marked_at w vs p) refl; unmarked = m.none }) in
+      let f : first_bad w vs [] 0 es ≡ Ok tt = stands_good w vs es (record { formed = m.formed; most = λ p. at_most p (marked_at w vs p) refl; unmarked = m.none }) in
       let g : wanting w es 0 vs ≡ false = all-had w es 0 vs (λ p h k. rw (zero-add p) (has_of p es (omega (arith, m.one p (rw (lt-ltb p (length vs) h, k)))))) in
       rw (f, g)
     where
@@ -116,17 +115,17 @@ pub record Accepted (bytes : List ℕ) (i : Image) (n places e : ℕ) : Type 0 w
   pub end : e ≡ text_end i n
 
 module _ (bytes : List ℕ) (i : Image) (n places : ℕ) where
-  answer-good : (c : Checked) (e d : ℕ) → answer_by c e ≡ X.Frame d → (c ≡ C.Good) × (d ≡ e)
-  answer-good C.Good e d h = (refl, cc)
-  answer-good (C.Refused r) e d h = absurd (let y : ◌≡◌ {A = ℕ} 0 1 = cc in omega arith)
+  answer-good : (c : Result (Unit {0}) Refusal) (e d : ℕ) → on_ok c Err (λ _. Ok e) ≡ Ok d → (c ≡ Ok tt) × (d ≡ e)
+  answer-good (Ok tt) e d h = (refl, cc)
+  answer-good (Err r) e d h = absurd (let y : ◌≡◌ {A = ℕ} 0 1 = cc in omega arith)
 
-  pub accepted-only : (e : ℕ) → text_answer bytes i n places ≡ X.Frame e → Accepted bytes i n places e
+  pub accepted-only : (e : ℕ) → text_answer bytes i n places ≡ Ok e → Accepted bytes i n places e
   unfolding text_answer
   accepted-only e h = go (ltb places (pixel_count i)) refl (ltb (length bytes) (text_end i n)) refl
     where
       go : (s : Bool) → ltb places (pixel_count i) ≡ s → (t : Bool) → ltb (length bytes) (text_end i n) ≡ t → Accepted bytes i n places e
-      go true p t q = absurd (let b : X.Refused R.PixelArrayShort ≡ X.Frame e = rw p at h in let y : ◌≡◌ {A = ℕ} 0 1 = cc in omega arith)
-      go false p true q = absurd (let b : X.Refused R.DataTruncated ≡ X.Frame e = rw (p, q) at h in let y : ◌≡◌ {A = ℕ} 0 1 = cc in omega arith)
+      go true p t q = absurd (let b : Err R.PixelArrayShort ≡ Ok e = rw p at h in let y : ◌≡◌ {A = ℕ} 0 1 = cc in omega arith)
+      go false p true q = absurd (let b : Err R.DataTruncated ≡ Ok e = rw (p, q) at h in let y : ◌≡◌ {A = ℕ} 0 1 = cc in omega arith)
       go false p false q =
           let g = answer-good (checked_of i.width (stored_image bytes i) (table_entries bytes i n)) (text_end i n) e (rw (p, q) at h) in
           record {
@@ -136,7 +135,7 @@ module _ (bytes : List ℕ) (i : Image) (n places : ℕ) where
             end = g.1;
           }
 
-  pub accepted-if : (e : ℕ) → Accepted bytes i n places e → text_answer bytes i n places ≡ X.Frame e
+  pub accepted-if : (e : ℕ) → Accepted bytes i n places e → text_answer bytes i n places ≡ Ok e
   unfolding text_answer
   accepted-if e a =
       let g = matched-accepted i.width (stored_image bytes i) (table_entries bytes i n) a.matched in
@@ -160,8 +159,8 @@ module _ (b b' : List ℕ) (i : Image) (n : ℕ) (same : take (image_end i + n *
   entries-same =
       sym (entries-take n (n * 16) (drop (image_end i) b) (omega arith)) ∙ ap (λ (l : List ℕ). text_entries n l) (part_same (image_end i) (n * 16) (omega arith)) ∙ entries-take n (n * 16) (drop (image_end i) b') (omega arith)
 
-  pub past-the-entries : (px : List ℕ) (e : ℕ) → text_answer b i n (length px) ≡ X.Frame e → e ≤ length b'
-      → (text_answer b' i n (length px) ≡ X.Frame e) × (text_pixels b' i n px ≡ text_pixels b i n px)
+  pub past-the-entries : (px : List ℕ) (e : ℕ) → text_answer b i n (length px) ≡ Ok e → e ≤ length b'
+      → (text_answer b' i n (length px) ≡ Ok e) × (text_pixels b' i n px ≡ text_pixels b i n px)
   unfolding text_pixels
   past-the-entries px e h k =
       let a = accepted-only b i n (length px) e h in
@@ -171,7 +170,7 @@ module _ (b b' : List ℕ) (i : Image) (n : ℕ) (same : take (image_end i + n *
       )
 
 -- a pixel of an accepted frame: the intensity of its entry if it is marked, and otherwise as it was stored
-pub accepted-pixel : (bytes : List ℕ) (i : Image) (n e : ℕ) (px : List ℕ) → text_answer bytes i n (length px) ≡ X.Frame e → (p : ℕ) → p < pixel_count i
+pub accepted-pixel : (bytes : List ℕ) (i : Image) (n e : ℕ) (px : List ℕ) → text_answer bytes i n (length px) ≡ Ok e → (p : ℕ) → p < pixel_count i
     → get_or (text_pixels bytes i n px) p 0
     ≡ if◌then◌else◌ (is_marked i.width (get_or (stored_image bytes i) p 0)) (intensity_at 0 p (table_entries bytes i n)) (get_or (stored_image bytes i) p 0)
 unfolding text_pixels frame_pixels
@@ -189,22 +188,22 @@ accepted-pixel bytes i n e px h p k =
 -- entries in their characters
 pub record Row : Type 0 where
   pub text : List ℕ
-  pub entry : Entry
+  pub entry : Option Entry
 
-abbrev pub row : List ℕ → Entry → Row
+abbrev pub row : List ℕ → Option Entry → Row
 row t e = record { text = t; entry = e }
 
 abbrev pub rows : List Row
 rows =
-    row (codes "      300     17") (E.Read 300 17) ∷
-    row (codes "0000003000000017") (E.Read 300 17) ∷
-    row (codes "9999999999999999") (E.Read 999999999 9999999) ∷
-    row (codes "              17") E.Malformed ∷
-    row (codes "      300       ") E.Malformed ∷
-    row (codes "      3 0     17") E.Malformed ∷
-    row (codes "     300      17") E.Malformed ∷
-    row (codes "     -300     17") E.Malformed ∷
-    row (codes "      300    17 ") E.Malformed ∷ []
+    row (codes "      300     17") (Some (entry_read 300 17)) ∷
+    row (codes "0000003000000017") (Some (entry_read 300 17)) ∷
+    row (codes "9999999999999999") (Some (entry_read 999999999 9999999)) ∷
+    row (codes "              17") None ∷
+    row (codes "      300       ") None ∷
+    row (codes "      3 0     17") None ∷
+    row (codes "     300      17") None ∷
+    row (codes "     -300     17") None ∷
+    row (codes "      300    17 ") None ∷ []
 
 pub every-row : map (λ (r : Row). entry_of r.text) rows ≡ map (λ (r : Row). r.entry) rows
 unfolding entry_of

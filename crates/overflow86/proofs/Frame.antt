@@ -1,5 +1,7 @@
 -- The ways through a frame: refusals 10 and 11, and the parts that the filling is lent.
 -- Assumes nothing.
+use Rattle.std.specs.Prelude.{Err, Ok, Result}
+use Rattle.refusal.specs.declared.Refusal.{Refusal}
 use mathlib.Core.Path.{◌≡◌, ◌∙◌}
 use mathlib.Core.List.{List, ◌++◌}
 use Prim.Native.Nat.{ℕ, ◌+◌, ◌-◌, ◌*◌, ◌≤◌, ◌<◌}
@@ -7,17 +9,15 @@ use native.Mathlib.Omega.{arith}
 use lib.ListN.{length, take, drop, length-drop}
 use lib.Seq.{length-take-le}
 use borrow.Author.Tests.{lt-ltb, le-ltb}
+use Rattle.lists.specs.Chain.{on_ok}
 use Rattle.refusal.specs.declared.Refusal.TheVariants as R
 use Rattle.layout.specs.declared.Image.{Image}
 use Rattle.layout.specs.Form.{width_bytes}
 use Rattle.layout.specs.Layout.{pixel_count, image_end, text_table_bytes, text_end}
 use Rattle.table.specs.Table.{entries}
 use Rattle.table.proofs.Laws.{entries-take as stored-take}
-use Rattle.marks.specs.declared.Checked.{Checked}
-use Rattle.overflow86.specs.declared.Expanded86.{Expanded86}
-use Rattle.overflow86.specs.declared.Expanded86.TheVariants as X
 use Rattle.overflow86.specs.Entries.{text_entries}
-use Rattle.overflow86.specs.Expand86.{checked_of, frame_pixels, stored_image, table_entries, answer_by, text_answer, text_pixels}
+use Rattle.overflow86.specs.Expand86.{checked_of, frame_pixels, stored_image, table_entries, text_answer, text_pixels}
 use Rattle.overflow86.proofs.Texts.{entries-take}
 
 -- the table has room for its entries
@@ -30,11 +30,11 @@ unfolding text_table_bytes
 table-small n = omega arith
 
 module _ (bytes px : List ℕ) (i : Image) (n : ℕ) where
-  pub short : length px < pixel_count i → (X.Refused R.PixelArrayShort ≡ text_answer bytes i n (length px)) × (px ≡ text_pixels bytes i n px)
+  pub short : length px < pixel_count i → (Err R.PixelArrayShort ≡ text_answer bytes i n (length px)) × (px ≡ text_pixels bytes i n px)
   unfolding text_answer text_pixels
   short h = (rw (lt-ltb _ _ h), rw (lt-ltb _ _ h))
 
-  pub truncated : pixel_count i ≤ length px → length bytes < text_end i n → (X.Refused R.DataTruncated ≡ text_answer bytes i n (length px)) × (px ≡ text_pixels bytes i n px)
+  pub truncated : pixel_count i ≤ length px → length bytes < text_end i n → (Err R.DataTruncated ≡ text_answer bytes i n (length px)) × (px ≡ text_pixels bytes i n px)
   unfolding text_answer text_pixels
   truncated h k = (rw (le-ltb _ _ h, lt-ltb _ _ k), rw (le-ltb _ _ h, lt-ltb _ _ k))
 
@@ -50,10 +50,10 @@ module _ (bytes px : List ℕ) (i : Image) (n : ℕ) where
       let k : e - t ≡ text_table_bytes n = omega arith in
       rw (k, p, entries-take n (text_table_bytes n) (drop (image_end i) bytes) (table-room n))
 
-  pub framed : (m a t e : ℕ) (checked : Checked) (out : List ℕ) (r : Expanded86) → m ≡ pixel_count i → m ≤ length px → a ≡ i.start → t ≡ image_end i → e ≡ text_end i n → e ≤ length bytes
+  pub framed : (m a t e : ℕ) (checked : Result (Unit {0}) Refusal) (out : List ℕ) (r : Result ℕ Refusal) → m ≡ pixel_count i → m ≤ length px → a ≡ i.start → t ≡ image_end i → e ≡ text_end i n → e ≤ length bytes
       → (checked ≡ checked_of i.width (entries (width_bytes i.width) (length (take m px)) (take (t - a) (drop a bytes))) (text_entries n (take (e - t) (drop t bytes))))
       × (out ≡ frame_pixels i.width (entries (width_bytes i.width) (length (take m px)) (take (t - a) (drop a bytes))) (text_entries n (take (e - t) (drop t bytes))))
-      → r ≡ answer_by checked e
+      → r ≡ on_ok checked Err (λ _. Ok e)
       → (r ≡ text_answer bytes i n (length px)) × (out ++ drop m px ≡ text_pixels bytes i n px)
   unfolding text_answer text_pixels
   framed m a t e checked out r pm h pa pt pe k f s =

@@ -3,12 +3,13 @@
 use mathlib.Core.Path.{◌≡◌, refl, sym, ◌∙◌}
 use mathlib.Core.Bool.{Bool, true, false}
 use mathlib.Core.List.{List, ◌∷◌, ◌++◌, map, append-nil}
-use Prim.Native.Nat.{ℕ, suc, ◌+◌, ◌-◌, ◌≤◌, ◌<◌}
+use Prim.Native.Nat.{ℕ, suc, ◌+◌, ◌≤◌, ◌<◌}
 use native.Mathlib.Numerals.{add-one}
 use native.Mathlib.Omega.{arith}
 use lib.ListN.{length, get_or, take, drop, set, length-set, drop_of_length-le}
 use lib.Seq.{drop-cons, take-suc-set, drop-set-lt, append_snoc, take_all}
 use lib.Dec.{eqb}
+use mir.Val.{bool_byte}
 use Rattle.std.specs.Prelude.{if◌then◌else◌}
 use Rattle.marks.specs.Steps.{count_of}
 use Rattle.overflow86.specs.Steps.{waiting_if, one_if}
@@ -27,6 +28,14 @@ one-le m x = go (eqb x m)
     go : (t : Bool) → if◌then◌else◌ t 1 0 ≤ 1
     go true = omega arith
     go false = omega arith
+
+-- a test as a number
+pub byte-one : (m x : ℕ) → bool_byte (eqb x m) ≡ one_if m x
+byte-one m x = go (eqb x m)
+  where
+    go : (t : Bool) → bool_byte t ≡ if◌then◌else◌ t 1 0
+    go true = refl
+    go false = refl
 
 -- the pixels from i on are still to be made waiting; n marks are counted
 pub record Awaiting (m : ℕ) (px₀ px : List ℕ) (n i : ℕ) : Type 0 where

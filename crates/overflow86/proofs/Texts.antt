@@ -1,43 +1,55 @@
 -- Laws of an entry's characters.
 -- Assumes nothing.
-use mathlib.Core.Path.{◌≡◌, refl, ap, ◌∙◌}
-use mathlib.Core.Bool.{Bool, true, false, ◌&&◌}
+use mathlib.Core.Path.{◌≡◌, refl, sym, ap, ◌∙◌}
+use mathlib.Core.Bool.{Bool, true, false, not, ◌&&◌}
 use mathlib.Core.List.{List, [], ◌∷◌}
+use mathlib.Core.Logic.{inl, inr}
 use Prim.Native.Nat.{ℕ, zero, suc, ◌+◌, ◌-◌, ◌*◌, ◌^◌, ◌≤◌, ◌<◌}
-use native.Mathlib.Nat.{add-zero, pow-suc, one-le-pow, pow-le-pow_right, le_of_suc-le-suc, not-suc-le-zero}
+use native.Mathlib.Nat.{add-zero, pow-suc, pow-le-pow_right, le_of_suc-le-suc, not-suc-le-zero}
 use native.Mathlib.Numerals.{add-one}
 use native.Mathlib.Omega.{arith}
-use lib.ListN.{length, get_or, take, drop, length-take, length-drop, drop_of_length-le}
+use lib.ListN.{length, get_or, take, drop, length-take, drop_of_length-le}
 use lib.Seq.{drop-cons, drop-drop, take-take}
 use lib.Dec.{eqb, leb, ltb}
-use borrow.Author.Tests.{eq-eqb, ne_eqb, le-leb, lt-leb, lt-ltb, leb-true}
-use Rattle.std.specs.Prelude.{if◌then◌else◌}
+use borrow.Author.Tests.{le-leb, lt-leb, lt-ltb, ltb-false, leb-true}
+use Rattle.std.specs.Prelude.{if◌then◌else◌, None, Option, Some, ℕ}
+use Rattle.std.specs.List.{position, position_or_len}
+use Rattle.std.specs.Char.{IsNotAsciiDigit}
 use Rattle.lists.specs.Digits.{is_digit, all_digits, value_from}
 use Rattle.lists.proofs.Tests.{and-false, and-true-left, and-true-right}
 use Rattle.lists.proofs.Parts.{drop-take}
-use Rattle.overflow86.specs.declared.Number.{Number}
-use Rattle.overflow86.specs.declared.Number.TheVariants as N
-use Rattle.marks.specs.declared.Entry.TheVariants as E
 use Rattle.overflow86.specs.Entries.{after_spaces, digits_number, text_number, entry_from, entry_of, text_entries}
 use Rattle.marks.specs.Marks.{intensity_of}
 
--- one law for each way through the loop over the spaces
-module _ (t : List ℕ) (i : ℕ) where
-  pub space-on : i < length t → get_or t i 0 ≡ 32 → after_spaces (drop (i + 1) t) ≡ after_spaces (drop i t)
-  unfolding after_spaces
-  space-on h e = rw (add-one, drop-cons t i 0 h, eq-eqb (get_or t i 0) 32 e)
+-- what follows the spaces, where the first other character was looked for
+space-drop : (t : List ℕ) → drop (position_or_len (λ b. not (eqb b 32)) t) t ≡ after_spaces t
+unfolding after_spaces
+space-drop [] = refl
+space-drop (b ∷ t) = go (eqb b 32) refl (space-drop t)
+  where
+    go : (c : Bool) → eqb b 32 ≡ c → drop (position_or_len (λ b. not (eqb b 32)) t) t ≡ after_spaces t → drop (position_or_len (λ b. not (eqb b 32)) (b ∷ t)) (b ∷ t) ≡ after_spaces (b ∷ t)
+    go true e ih =
+        let s : 1 + position_or_len (λ b. not (eqb b 32)) t ≡ suc (position_or_len (λ b. not (eqb b 32)) t) = omega arith in
+        rw (e, s) ih
+    go false e ih = rw e
 
-  pub space-stop : i < length t → (get_or t i 0 ≡ 32 → ⊥) → drop i t ≡ after_spaces (drop i t)
-  unfolding after_spaces
-  space-stop h e = rw (drop-cons t i 0 h, ne_eqb (get_or t i 0) 32 e)
+pub space-stop : (t : List ℕ) (k : ℕ) → position (λ b. not (eqb b 32)) t ≡ Some k → drop k t ≡ after_spaces t
+space-stop t k h = go (ltb (position_or_len (λ b. not (eqb b 32)) t) (length t)) refl
+  where
+    go : (c : Bool) → ltb (position_or_len (λ b. not (eqb b 32)) t) (length t) ≡ c → drop k t ≡ after_spaces t
+    go true q = let e : Some (position_or_len (λ b. not (eqb b 32)) t) ≡ Some k = rw q at h in let n : k ≡ position_or_len (λ b. not (eqb b 32)) t = cc in rw n (space-drop t)
+    go false q = let e : None ≡ Some k = rw q at h in absurd (cc)
 
-  pub space-end : length t ≤ i → drop i t ≡ after_spaces (drop i t)
-  unfolding after_spaces
-  space-end h = rw (drop_of_length-le t h)
+pub space-end : (t : List ℕ) → position (λ b. not (eqb b 32)) t ≡ None → after_spaces t ≡ []
+space-end t h = go (ltb (position_or_len (λ b. not (eqb b 32)) t) (length t)) refl
+  where
+    go : (c : Bool) → ltb (position_or_len (λ b. not (eqb b 32)) t) (length t) ≡ c → after_spaces t ≡ []
+    go true q = let e : Some (position_or_len (λ b. not (eqb b 32)) t) ≡ None = rw q at h in absurd (cc)
+    go false q = sym (space-drop t) ∙ drop_of_length-le t (ltb-false _ _ q)
 
 -- digits to the end of t, after digits of the value v
-unfoldable pub digits_from : ℕ → List ℕ → Number
-digits_from v t = if all_digits t then N.Value (value_from v t) else N.Malformed
+unfoldable pub digits_from : ℕ → List ℕ → Option ℕ
+digits_from v t = if all_digits t then Some (value_from v t) else None
 
 ten-le : (i j : ℕ) → i ≤ j → 10 ^ i ≤ 10 ^ j
 ten-le i j h = pow-le-pow_right {n = 10} (omega arith) h
@@ -48,46 +60,40 @@ grow v d n h k = omega (arith, pow-suc 10 n)
 
 -- one law for each way through the loop over the digits
 module _ (t : List ℕ) (v i : ℕ) where
-  pub digit_low : i < length t → get_or t i 0 < 48 → digits_from v (drop i t) ≡ N.Malformed
+  pub digit-not : i < length t → IsNotAsciiDigit (get_or t i 0) → digits_from v (drop i t) ≡ None
   unfolding digits_from
-  digit_low h l = rw (drop-cons t i 0 h, lt-leb 48 (get_or t i 0) l)
-
-  pub digit-high : i < length t → 57 < get_or t i 0 → digits_from v (drop i t) ≡ N.Malformed
-  unfolding digits_from
-  digit-high h l = rw (drop-cons t i 0 h, lt-leb (get_or t i 0) 57 l, and-false (leb 48 (get_or t i 0)))
+  digit-not h l = rw (drop-cons t i 0 h) (elim l [ inl k ↦ rw (lt-leb 48 (get_or t i 0) k) | inr k ↦ rw (lt-leb (get_or t i 0) 57 k, and-false (leb 48 (get_or t i 0))) ])
 
   pub digit-on : i < length t → 48 ≤ get_or t i 0 → get_or t i 0 ≤ 57 → digits_from (v * 10 + (get_or t i 0 - 48)) (drop (i + 1) t) ≡ digits_from v (drop i t)
   unfolding digits_from
   digit-on h l u = rw (add-one, drop-cons t i 0 h, le-leb 48 (get_or t i 0) l, le-leb (get_or t i 0) 57 u)
 
-  pub digit-end : length t ≤ i → N.Value v ≡ digits_from v (drop i t)
+  pub digit-end : length t ≤ i → Some v ≡ digits_from v (drop i t)
   unfolding digits_from
   digit-end h = rw (drop_of_length-le t h)
 
-pub digits-start : (t : List ℕ) (i : ℕ) → i < length t → digits_from 0 (drop i t) ≡ digits_number (drop i t)
+pub digits-start : (t : List ℕ) → 0 < length t → digits_from 0 t ≡ digits_number t
 unfolding digits_from digits_number
-digits-start t i h = rw (lt-ltb 0 (length (drop i t)) (simp length-drop (omega arith)))
+digits-start t h = rw (lt-ltb 0 (length t) h)
 
-pub digits-none : (t : List ℕ) (i : ℕ) → length t ≤ i → N.Malformed ≡ digits_number (drop i t)
+pub digits-none : (t : List ℕ) → length t ≡ 0 → None ≡ digits_number t
 unfolding digits_number
-digits-none t i h = rw (drop_of_length-le t h)
+digits-none t h = rw h
 
 -- what the loop over the digits keeps
-pub record Gathering (t : List ℕ) (from v i : ℕ) : Type 0 where
-  pub upto : i ≤ length t
+pub record Gathering (t : List ℕ) (v i : ℕ) : Type 0 where
   pub small : v < 10 ^ i
-  pub is : digits_from v (drop i t) ≡ digits_number (drop from t)
+  pub is : digits_from v (drop i t) ≡ digits_number t
 
-pub gathering-start : (t : List ℕ) (from : ℕ) → from < length t → Gathering t from 0 from
-gathering-start t from h = record { upto = omega arith; small = one-le-pow from 10 (omega arith); is = digits-start t from h }
+pub gathering-start : (t : List ℕ) → 0 < length t → Gathering t 0 0
+gathering-start t h = record { small = omega arith; is = digits-start t h }
 
-module _ {t : List ℕ} {from v i : ℕ} (f : Gathering t from v i) (short : length t ≤ 9) (h : i < length t) where
+module _ {t : List ℕ} {v i : ℕ} (f : Gathering t v i) (short : length t ≤ 9) (h : i < length t) where
   pub gathering-small : v < 100000000
   gathering-small = omega (arith, f.small, ten-le i 8 (omega arith))
 
-  pub gathering-on : 48 ≤ get_or t i 0 → get_or t i 0 ≤ 57 → Gathering t from (v * 10 + (get_or t i 0 - 48)) (i + 1)
+  pub gathering-on : 48 ≤ get_or t i 0 → get_or t i 0 ≤ 57 → Gathering t (v * 10 + (get_or t i 0 - 48)) (i + 1)
   gathering-on l u = record {
-    upto = omega arith;
     small = rw add-one (grow v (get_or t i 0 - 48) i f.small (omega arith));
     is = digit-on t v i h l u ∙ f.is;
   }
@@ -100,11 +106,11 @@ value-below (b ∷ bs) v n e h =
     let m : n + length (b ∷ bs) ≡ suc n + length bs = omega arith in
     rw m (value-below bs (v * 10 + (b - 48)) (suc n) (and-true-right (is_digit b) (all_digits bs) e) (grow v (b - 48) n h (omega arith)))
 
-digits-below : (t : List ℕ) (v : ℕ) → digits_number t ≡ N.Value v → v < 10 ^ length t
+digits-below : (t : List ℕ) (v : ℕ) → digits_number t ≡ Some v → v < 10 ^ length t
 unfolding digits_number
 digits-below t v p = go (ltb 0 (length t) && all_digits t) refl p
   where
-    go : (b : Bool) → (ltb 0 (length t) && all_digits t) ≡ b → if◌then◌else◌ b (N.Value (value_from 0 t)) N.Malformed ≡ N.Value v → v < 10 ^ length t
+    go : (b : Bool) → (ltb 0 (length t) && all_digits t) ≡ b → if◌then◌else◌ b (Some (value_from 0 t)) None ≡ Some v → v < 10 ^ length t
     go true q r =
         let e : v ≡ value_from 0 t = cc in
         let z : 0 + length t ≡ length t = omega arith in
@@ -121,16 +127,16 @@ spaces-shorten (b ∷ bs) = go (eqb b 32) refl (spaces-shorten bs)
     go false e ih = rw e (omega arith)
 
 -- nine characters give a number below 10 ^ 9
-pub number-below : (t : List ℕ) (v : ℕ) → length t ≤ 9 → text_number t ≡ N.Value v → v < 1000000000
+pub number-below : (t : List ℕ) (v : ℕ) → length t ≤ 9 → text_number t ≡ Some v → v < 1000000000
 unfolding text_number
 number-below t v h p =
     let l : length (after_spaces t) ≤ 9 = omega (arith, spaces-shorten t) in
     omega (arith, digits-below (after_spaces t) v p, ten-le (length (after_spaces t)) 9 l)
 
-from-small : (a b : Number) → ((v : ℕ) → a ≡ N.Value v → v < 1000000000) → intensity_of (entry_from a b) < 1000000000
-from-small (N.Value v) (N.Value p) h = h v refl
-from-small (N.Value v) N.Malformed h = omega arith
-from-small N.Malformed b h = omega arith
+from-small : (a b : Option ℕ) → ((v : ℕ) → a ≡ Some v → v < 1000000000) → intensity_of (entry_from a b) < 1000000000
+from-small (Some v) (Some p) h = h v refl
+from-small (Some v) None h = omega arith
+from-small None b h = omega arith
 
 -- so an entry's intensity is never what a waiting pixel holds
 pub entry-small : (t : List ℕ) → intensity_of (entry_of t) < 1000000000
@@ -142,7 +148,7 @@ unfolding text_entries
 entries-length zero t = refl
 entries-length (suc n) t = ap suc (entries-length n (drop 16 t))
 
-pub entries_at : (n : ℕ) (t : List ℕ) (k : ℕ) → k < n → get_or (text_entries n t) k E.Malformed ≡ entry_of (drop (k * 16) t)
+pub entries_at : (n : ℕ) (t : List ℕ) (k : ℕ) → k < n → get_or (text_entries n t) k None ≡ entry_of (drop (k * 16) t)
 unfolding text_entries
 entries_at zero t k h = absurd (not-suc-le-zero h)
 entries_at (suc n) t zero h = refl

@@ -1,11 +1,10 @@
 -- What the pixel array holds while the entries are taken. For the contracts of private functions.
-use Rattle.std.specs.Prelude.{ℕ, Bool, true, false, List, [], ◌∷◌, map, eqb, if◌then◌else◌}
+use Rattle.marks.specs.declared.Entry.{Entry}
+use Rattle.refusal.specs.declared.Refusal.{Refusal}
+use Rattle.std.specs.Prelude.{ℕ, Bool, true, false, List, [], ◌∷◌, map, eqb, if◌then◌else◌, Err, Ok, Result, Option}
 use Rattle.layout.specs.declared.Width.{Width}
 use Rattle.layout.specs.declared.Width.TheVariants as W
 use Rattle.refusal.specs.declared.Refusal.TheVariants as R
-use Rattle.marks.specs.declared.Entry.{Entry}
-use Rattle.marks.specs.declared.Checked.{Checked}
-use Rattle.marks.specs.declared.Checked.TheVariants as C
 use Rattle.marks.specs.Steps.{placing, placed, count_of}
 
 -- what a marked pixel holds until its entry comes: no nine digits give it
@@ -18,14 +17,14 @@ has_marks W.One = true
 has_marks W.Two = true
 has_marks W.Four = false
 
-abbrev pub no_entries : List Entry → Checked
-no_entries [] = C.Good
-no_entries (e ∷ es) = C.Refused (R.BadEntry 0)
+abbrev pub no_entries : List (Option Entry) → Result (Unit {0}) Refusal
+no_entries [] = (Ok tt)
+no_entries (e ∷ es) = Err (R.BadEntry 0)
 
-abbrev pub placing_in : Width → List ℕ → List Entry → Checked
+abbrev pub placing_in : Width → List ℕ → List (Option Entry) → Result (Unit {0}) Refusal
 placing_in w px es = if has_marks w then placing waiting px 0 es else no_entries es
 
-abbrev pub placed_in : Width → List ℕ → List Entry → List ℕ
+abbrev pub placed_in : Width → List ℕ → List (Option Entry) → List ℕ
 placed_in w px es = if has_marks w then placed waiting px es else px
 
 abbrev pub waiting_if : ℕ → ℕ → ℕ

@@ -1,9 +1,11 @@
 -- Counts of blocks that follow each other, and the loop over them.
 -- Assumes nothing.
-use Rattle.std.proofs.Common.{◌≡◌, ℕ, ◌+◌, ◌-◌, ◌%◌, ◌^◌, ◌<◌, ◌≤◌, Bool, true, false, eqb, leb, List, ◌++◌, length, get_or, take, drop, sym, refl, ap, ◌∙◌, arith, length-append, length-drop, length-take, length-take-le, take_all, eqb-true}
+use Rattle.std.proofs.Common.{◌≡◌, ℕ, zero, suc, ◌+◌, ◌-◌, ◌*◌, ◌/◌, ◌%◌, ◌^◌, ◌<◌, ◌≤◌, Bool, true, false, eqb, leb, List, [], ◌∷◌, ◌++◌, length, get_or, take, drop, sym, refl, ap, ◌∙◌, arith, length-append, length-drop, length-take, take_all, drop-drop, zero-mul, suc-mul, add-one, eqb-true}
 use Rattle.std.specs.Prelude.{if◌then◌else◌}
+use Rattle.std.specs.Int.{from_bool}
+use Rattle.std.specs.Simd.{first_chunks}
 use Rattle.lists.specs.Only.{only}
-use Rattle.lists.proofs.Only.{only-append, only-le, only-more, choice-length, take_split}
+use Rattle.lists.proofs.Only.{only-append, only-le, only-more, take_split}
 use Rattle.layout.specs.declared.Width.{Width}
 use Rattle.layout.specs.declared.Width.TheVariants as W
 use Rattle.layout.specs.declared.Underflow.{Underflow}
@@ -24,12 +26,16 @@ wrapping-start p s = record { upto = omega arith; is = refl }
 wrap-add : (m n z : ℕ) → m ≡ wrapped n → wrapped (m + z) ≡ wrapped (n + z)
 wrap-add m n z e = omega arith
 
-pub wrapping-more : {p : ℕ → Bool} {s : List ℕ} {k i r : ℕ} (z : ℕ) → Wrapping p s k i → i < length s → z ≡ if◌then◌else◌ (p (get_or s i 0)) 1 0 → r ≡ (k + z) % 2 ^ 32
+pub wrapping-more : {p : ℕ → Bool} {s : List ℕ} {k i r : ℕ} (t : Bool) → Wrapping p s k i → i < length s → t ≡ p (get_or s i 0) → r ≡ (k + from_bool t) % 2 ^ 32
     → Wrapping p s r (i + 1)
-wrapping-more {p} {s} {k} {i} {r} z f h e q = record {
+wrapping-more {p} {s} {k} {i} {r} t f h e q = record {
   upto = omega arith;
-  is = q ∙ wrap-add k (length (only p (take i s))) z f.is ∙ rw (only-more p s i h, length-append, choice-length (p (get_or s i 0)) (get_or s i 0), ← e);
+  is = q ∙ wrap-add k (length (only p (take i s))) (from_bool t) f.is ∙ rw (only-more p s i h, length-append, ← e) (ap (λ (n : ℕ). wrapped (length (only p (take i s)) + n)) (one t (get_or s i 0)));
 }
+  where
+    one : (t : Bool) (x : ℕ) → from_bool t ≡ length (if◌then◌else◌ t (x ∷ []) [])
+    one true x = refl
+    one false x = refl
 
 pub wrapping-done : {p : ℕ → Bool} {s : List ℕ} {k i : ℕ} → Wrapping p s k i → length s ≤ i → k ≡ passing p s
 wrapping-done {p} {s} {k} {i} f h = rw (take_all i s h) at f.is
@@ -145,3 +151,23 @@ blocks_more {form} {base} {pixels} {c} {d} {r} {p} e f h k l q s = record {
 
 pub blocks-done : {form : Form} {base : ℕ} {pixels : List ℕ} {c : Counts} {p : ℕ} → Blocks form base pixels c p → length pixels ≤ p → c ≡ counts_for form (counts_of base pixels)
 blocks-done {form} {base} {pixels} {c} {p} f h = rw (take_all p pixels h) at f.is
+
+-- a block of the slice as arrays
+pub chunk_at : (n k i : ℕ) (d xs : List ℕ) → i < k → get_or (first_chunks n k xs) i d ≡ take n (drop (i * n) xs)
+chunk_at n zero i d xs h = absurd (omega arith)
+chunk_at n (suc k) zero d xs h = rw zero-mul
+chunk_at n (suc k) (suc i) d xs h = chunk_at n k i d (drop n xs) (omega arith) ∙ rw drop-drop (ap (λ (m : ℕ). take n (drop m xs)) (omega (arith, suc-mul i n)))
+
+-- the i-th of the blocks of n pixels, and what is left after them
+pub block_at : (n i : ℕ) (e xs : List ℕ) (bs : List (List ℕ)) → bs ≡ first_chunks n (length xs / n) xs → i < length xs / n → get_or bs i e ≡ take ((i + 1) * n - i * n) (drop (i * n) xs)
+block_at n i e xs bs q h =
+    let m : (i + 1) * n - i * n ≡ n = omega (arith, suc-mul i n, ap (λ (k : ℕ). k * n) (add-one i)) in
+    rw (q, m) (chunk_at n (length xs / n) i e xs h)
+
+pub rest_at : (i : ℕ) (xs rest : List ℕ) (p : ℕ) → rest ≡ drop i xs → p ≡ i → rest ≡ take (length xs - p) (drop p xs)
+rest_at i xs rest p q e = q ∙ rw e (sym (take_all (length xs - i) (drop i xs) (simp length-drop (omega arith))))
+
+-- a test as a number
+pub one_if : (t : Bool) → from_bool t ≡ if◌then◌else◌ t 1 0
+one_if true = refl
+one_if false = refl

@@ -1,5 +1,5 @@
 -- How many pixels take an entry of each table.
-use Rattle.std.specs.Prelude.{ℕ, ◌+◌, ◌%◌, Bool, false, ◌||◌, leb, List, [], ◌∷◌, length, ◌==◌, nat_le, nat_lt, if◌then◌else◌}
+use Rattle.std.specs.Prelude.{ℕ, ◌≡◌, ◌+◌, ◌%◌, Bool, false, ◌||◌, leb, List, [], ◌∷◌, length, ◌==◌, nat_le, nat_lt, if◌then◌else◌}
 use Rattle.lists.specs.Only.{only}
 use Rattle.layout.specs.declared.Width.{Width}
 use Rattle.layout.specs.declared.Width.TheVariants as W
@@ -69,3 +69,7 @@ passing p vs = wrapped (length (only p vs))
 -- the same for numbers from a limit on, where a lower limit passes k: none where that is 0
 abbrev pub passing_from : ℕ → ℕ → List ℕ → ℕ
 passing_from k limit vs = if k == 0 then 0 else passing (leb limit) vs
+
+-- For the contract of a private function. What a closure may answer is the test's answer
+abbrev pub Answers : (ℕ → Bool) → (ℕ → Bool → Type 0) → Type 0
+Answers p post = (v : ℕ) (r : Bool) → post v r → r ≡ p v

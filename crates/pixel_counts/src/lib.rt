@@ -1,59 +1,45 @@
 // Pixels counted for their entries.
 #![tactic(auto)]
 
-ghost use Rattle.std.specs.Prelude.{◌≡◌, ◌+◌, ◌^◌, ◌<◌, ◌≤◌, ◌&&◌, ◌||◌, leb, length, nat_le, nat_lt, if◌then◌else◌};
+ghost use Rattle.std.specs.Prelude.{◌≡◌, ℕ, ◌+◌, ◌^◌, ◌<◌, ◌≤◌, Bool, leb, length};
 ghost use Rattle.lists.specs.Only.{only};
-ghost use Rattle.pixel_counts.specs.Counts.{is_underflow, any_above255, counts_of, under_count, two_count, four_count, counts_for, no_counts, counted, counts_more, passing, passing_from};
+ghost use Rattle.pixel_counts.specs.Counts.{is_underflow, any_above255, counts_of, under_count, two_count, four_count, counts_for, no_counts, counted, counts_more, passing, passing_from, Answers};
 
 use header_text::Counts;
 use layout::{EntryWidth, Form, Underflow, Width};
 
-pub fn one_if_at_most(v: u32, limit: u32) -> u32
-    ensures { result ≡ if◌then◌else◌ (nat_le v limit) 1 0 }
+// How many numbers pass, modulo 2^32. The body has no branch, so that the loop is made of vector instructions.
+fn count_passing<F: Fn(u32) -> bool>(s: &[u32], passes: F) -> u32
+    requires { F.IsAlwaysCallable passes }
+    ensures { (p : ℕ → Bool) → Answers p (F.post passes) → result ≡ passing p s.now }
 {
-    if v <= limit { 1 } else { 0 }
+    let mut k: u32 = 0;
+    for v in s {
+        let one = u32::from(passes(*v));
+        k = k.wrapping_add(one);
+    }
+    k
 }
 
-pub fn one_if_from(v: u32, limit: u32) -> u32
-    ensures { result ≡ if◌then◌else◌ (nat_le limit v) 1 0 }
-{
-    if limit <= v { 1 } else { 0 }
-}
-
-// How many numbers are at most limit, modulo 2^32. The body has no branch, so that the loop is made of vector instructions.
+// How many numbers are at most limit, modulo 2^32.
 pub fn count_at_most(s: &[u32], limit: u32) -> u32
     ensures { result ≡ passing (is_underflow limit) s.now }
 {
-    let mut k: u32 = 0;
-    let mut i = 0;
-    while i < s.len() {
-        k = std::num::wrapping_add_u32(k, one_if_at_most(s[i], limit));
-        i += 1;
-    }
-    k
+    count_passing(s, |v| v <= limit)
 }
 
 // How many numbers are limit or more, modulo 2^32.
 pub fn count_from(s: &[u32], limit: u32) -> u32
     ensures { result ≡ passing (leb limit) s.now }
 {
-    let mut k: u32 = 0;
-    let mut i = 0;
-    while i < s.len() {
-        k = std::num::wrapping_add_u32(k, one_if_from(s[i], limit));
-        i += 1;
-    }
-    k
+    count_passing(s, |v| limit <= v)
 }
 
 // The same, and none where k is 0: a lower limit has that count.
 pub fn count_above(s: &[u32], k: u32, limit: u32) -> u32
     ensures { result ≡ passing_from k limit s.now }
 {
-    if k == 0 {
-        return 0;
-    }
-    count_from(s, limit)
+    if k == 0 { 0 } else { count_from(s, limit) }
 }
 
 // How many underflow entries the kind has for a block.
@@ -74,8 +60,7 @@ fn count_two(block: &[u32], w: Width, limit: u32) -> u32
 {
     match w {
         Width::One => count_from(block, limit),
-        Width::Two => 0,
-        Width::Four => 0,
+        Width::Two | Width::Four => 0,
     }
 }
 
@@ -92,26 +77,26 @@ fn count_four(block: &[u32], w: Width, two: u32, base: u32) -> u32
 }
 
 // The counts of a block, as far as the form has entries for them.
+#[tactic(auto, unfolding(crate::specs::Counts::counts_of, crate::specs::Counts::counts_for))]
 fn count_block(block: &[u32], form: Form, base: u32) -> Counts
     requires { (length block.now < 2 ^ 32) × (base ≤ 65535) }
     ensures { result ≡ counts_for form (counts_of base block.now) }
 {
-    let u = form.underflow;
-    let w = form.width;
-    let under = count_under(block, u, base);
-    let two = count_two(block, w, base + 255);
-    let four = count_four(block, w, two, base);
+    let under = count_under(block, form.underflow, base);
+    let two = count_two(block, form.width, base + 255);
+    let four = count_four(block, form.width, two, base);
     Counts { under, two, four }
 }
 
 // The counts of two parts together, modulo 2^32.
+#[tactic(auto, unfolding(crate::specs::Counts::counts_more))]
 pub fn add_counts(c: Counts, d: Counts) -> Counts
     ensures { result ≡ counts_more c d }
 {
     Counts {
-        under: std::num::wrapping_add_u32(c.under, d.under),
-        two: std::num::wrapping_add_u32(c.two, d.two),
-        four: std::num::wrapping_add_u32(c.four, d.four),
+        under: c.under.wrapping_add(d.under),
+        two: c.two.wrapping_add(d.two),
+        four: c.four.wrapping_add(d.four),
     }
 }
 
@@ -126,46 +111,29 @@ pub fn no_counts() -> Counts
 }
 
 // The counts of all pixels, in one pass: 128 pixels at a time, and what is left.
+#[tactic(auto, unfolding(crate::specs::Counts::counted))]
 pub fn count(pixels: &[u32], form: Form, base: u16) -> Counts
     ensures { result ≡ counted form base pixels.now }
 {
-    let n = pixels.len();
-    if 16777216 < n {
+    if 16777216 < pixels.len() {
         return no_counts();
     }
-    let b = base as u32;
+    let b = u32::from(base);
     let mut c = no_counts();
-    let mut p = 0;
-    while 128 <= n - p {
-        let e = p + 128;
-        let d = count_block(&pixels[p..e], form, b);
-        c = add_counts(c, d);
-        p = e;
+    let (blocks, rest) = pixels.as_chunks::<128>();
+    for block in blocks {
+        c = add_counts(c, count_block(block, form, b));
     }
-    let d = count_block(&pixels[p..n], form, b);
-    add_counts(c, d)
+    add_counts(c, count_block(rest, form, b))
 }
 
-// found, or v is an underflow entry that one byte does not hold
-fn above(found: bool, v: u32, base: u32) -> bool
-    ensures { result ≡ (found || (nat_le v base && nat_lt 255 v)) }
-{
-    if v <= base {
-        if 255 < v { true } else { found }
-    } else {
-        found
-    }
-}
-
-// Some underflow entry is above 255: every pixel is looked at.
+// Some underflow entry is above 255: every pixel is looked at. No early exit, so that the loop is made of vector instructions.
 fn any_above(pixels: &[u32], base: u32) -> bool
     ensures { result ≡ any_above255 (only (is_underflow base) pixels.now) }
 {
     let mut found = false;
-    let mut i = 0;
-    while i < pixels.len() {
-        found = above(found, pixels[i], base);
-        i += 1;
+    for v in pixels {
+        found |= (*v <= base) & (255 < *v);
     }
     found
 }

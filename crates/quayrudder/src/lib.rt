@@ -1,7 +1,7 @@
 // The library's functions under fixed names, with answers as plain numbers; `quayrudder_c` exports them to C.
 #![tactic(auto)]
 
-ghost use Rattle.std.specs.Prelude.{◌≡◌, length};
+ghost use Rattle.std.specs.Prelude.{◌≡◌, length, Some};
 ghost use Rattle.header.specs.Header.{header_of};
 ghost use Rattle.header_report.specs.Report.{header_report};
 ghost use Rattle.reader.specs.Reader.{read_answer, read_pixels};
@@ -14,16 +14,16 @@ ghost use Rattle.mar_image.specs.MarImage.{mar_answer, mar_pixels};
 ghost use Rattle.mar_entry.specs.Entry.{entry_of};
 ghost use Rattle.dtrek_header.specs.DtrekHeader.{dtrek_header};
 ghost use Rattle.dtrek_image.specs.DtrekImage.{dtrek_answer, dtrek_pixels};
-ghost use Rattle.dtrek_report.specs.Report.{dtrek_read_result, dtrek_report};
+ghost use Rattle.dtrek_report.specs.Report.{dtrek_report};
 ghost use Rattle.dtrek_report.specs.Item.{dtrek_item};
 ghost use Rattle.smallest.specs.Smallest.{smallest_form};
 ghost use Rattle.opening.specs.Open.{open_answer, open_pixels, open_held, chosen_form, smallest_opened};
-ghost use Rattle.writer.specs.declared.AskedForm.TheVariants.{Listed};
 ghost use Rattle.archive.specs.Calls.{correct_outcome, withdraw_outcome, amend_outcome};
-ghost use Rattle.frame_report.specs.Report.{read_result, asked_form, write_result, open_result};
+ghost use Rattle.answers.specs.Read.{read_result};
+ghost use Rattle.frame_report.specs.Report.{asked_form, write_result, open_result};
 ghost use Rattle.form_report.specs.Report.{form_result, open_form_result};
 ghost use Rattle.ledger_report.specs.Report.{ledger_result, purge_result, day_result, pixel_result, list_result};
-ghost use Rattle.mar_report.specs.Report.{mar_read_result, mar_entry_result};
+ghost use Rattle.mar_report.specs.Report.{mar_entry_result};
 ghost use Rattle.quayrudder.specs.Date.{date};
 
 use answers::ReadResult;
@@ -47,15 +47,15 @@ pub fn qr_read(frame: &[u8], pixels: &mut [u32]) -> ReadResult
     ensures value { result ≡ read_result (read_answer frame.now (length pixels.old)) }
     ensures pixels_after { pixels.new ≡ read_pixels frame.now pixels.old }
 {
-    frame_report::read_result(reader::read(frame, pixels))
+    answers::read_result(reader::read(frame, pixels))
 }
 
 // Reads an uncompressed mar image plate.
 pub fn qr_mar_read(file: &[u8], pixels: &mut [u32]) -> ReadResult
-    ensures value { result ≡ mar_read_result (mar_answer file.now (length pixels.old)) }
+    ensures value { result ≡ read_result (mar_answer file.now (length pixels.old)) }
     ensures pixels_after { pixels.new ≡ mar_pixels file.now pixels.old }
 {
-    mar_report::mar_read_result(mar_image::read(file, pixels))
+    mar_report::read(file, pixels)
 }
 
 // One of the 25 entries of a mar header record, its bits as stored.
@@ -67,7 +67,7 @@ pub fn qr_mar_entry(file: &[u8], entry: u32) -> MarEntryResult
 
 // Reads a d*TREK image.
 pub fn qr_dtrek_read(file: &[u8], pixels: &mut [u32]) -> ReadResult
-    ensures value { result ≡ dtrek_read_result (dtrek_answer file.now (length pixels.old)) }
+    ensures value { result ≡ read_result (dtrek_answer file.now (length pixels.old)) }
     ensures pixels_after { pixels.new ≡ dtrek_pixels file.now pixels.old }
 {
     dtrek_report::read(file, pixels)
@@ -137,7 +137,7 @@ pub fn qr_smallest(header: &[u8], pixels: &[u32]) -> FormResult
 pub fn qr_open_smallest(frame: &[u8], pixels: &mut [u32], held: &mut [u8]) -> OpenFormResult
     ensures value { result ≡ open_form_result (smallest_opened frame.now pixels.old (length held.old)) }
     ensures pixels_after { pixels.new ≡ open_pixels frame.now pixels.old }
-    ensures held_after { held.new ≡ open_held frame.now pixels.old (Listed (chosen_form frame.now pixels.old)) held.old }
+    ensures held_after { held.new ≡ open_held frame.now pixels.old (Some (chosen_form frame.now pixels.old)) held.old }
 {
     form_report::open_form_result(opening::open_smallest(frame, pixels, held))
 }

@@ -8,7 +8,7 @@ use native.Mathlib.Omega.{arith}
 use lib.ListN.{length, drop, length-append}
 use lib.Seq.{drop_at}
 use lib.Dec.{ltb}
-use Rattle.std.specs.Prelude.{if◌then◌else◌}
+use Rattle.std.specs.Prelude.{if◌then◌else◌, Ok}
 use borrow.Author.Tests.{le-ltb}
 use Rattle.layout.specs.declared.Underflow.{Underflow}
 use Rattle.layout.specs.declared.Underflow.TheVariants as U
@@ -21,7 +21,6 @@ use Rattle.table.specs.Table.{entries}
 use Rattle.table.specs.Writing.{table_of, padded_table}
 use Rattle.expand.specs.Steps.{Stored, after_c, exhausted, sums_too_large}
 use Rattle.expand.specs.Expand.{stored_of, padding_zero, table_padding_zero, applies_c, baseline_of, binary_answer, binary_pixels}
-use Rattle.expand.specs.declared.Expanded.TheVariants.{Frame}
 use Rattle.writer.specs.Storing.{stored_for, under_entries}
 use Rattle.writer.specs.Frame.{body_bytes}
 use Rattle.readback.specs.Written.{underflows_for, image_for, tables_for}
@@ -188,12 +187,12 @@ module _ (form : Form) (b rows columns : ℕ) (vs A Z : List ℕ) (all : rows * 
     enough = rw (length-append, length-append) (omega (arith, end-at))
 
     -- the answer is the frame's end
-    pub body-answer : (places : ℕ) → length vs ≤ places → binary_answer bytes i t places ≡ Frame (binary_end i t)
+    pub body-answer : (places : ℕ) → length vs ≤ places → binary_answer bytes i t places ≡ Ok (binary_end i t)
     unfolding binary_answer
     body-answer places h =
         let room : ltb places (rows * columns) ≡ false = le-ltb places (rows * columns) (rw all h) in
         let whole : ltb (length bytes) (binary_end i t) ≡ false = le-ltb (length bytes) (binary_end i t) enough in
-        reached _ _ _ _ _ _ _ _ _ _ (Frame (binary_end i t)) room whole padding-read taken-read sums-read
+        reached _ _ _ _ _ _ _ _ _ _ (Ok (binary_end i t)) room whole padding-read taken-read sums-read
 
     -- and the pixels come first in the array
     pub body-pixels : (px : List ℕ) → length vs ≤ length px → binary_pixels bytes i t px ≡ vs ++ drop (length vs) px

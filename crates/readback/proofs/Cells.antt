@@ -1,5 +1,6 @@
 -- What the writer puts into the cells of a header line is read back: decimal numbers, and -1.
 -- Assumes nothing.
+use Rattle.field.specs.Fields.{field_found}
 use mathlib.Core.Path.{◌≡◌, refl, sym, ap, ◌∙◌}
 use mathlib.Core.Bool.{Bool, true, false}
 use mathlib.Core.List.{List, [], ◌∷◌, ◌++◌}
@@ -10,16 +11,12 @@ use borrow.Author.Tests.{le-leb, ne_eqb, leb-true, ltb-true}
 use lib.Dec.{eqb, leb, ltb}
 use lib.ListN.{length, drop, length-append, length-replicate}
 use lib.Seq.{drop-drop, drop_at, drop-append_seam, take-append_seam}
-use Rattle.std.specs.Prelude.{if◌then◌else◌}
+use Rattle.std.specs.Prelude.{if◌then◌else◌, Some, None}
 use Rattle.lists.specs.Digits.{is_digit, all_digits, value_from, digits_up_to, decimal}
 use Rattle.lists.proofs.Tests.{and-false, and-true-left, and-true-right}
 use Rattle.numeral.specs.declared.Class.TheVariants.{Space, Other}
-use Rattle.numeral.specs.declared.Number.TheVariants.{Value}
 use Rattle.numeral.specs.Runs.{in_class, leading, passed}
 use Rattle.numeral.specs.Numerals.{number_from, number_of, is_minus_one}
-use Rattle.field.specs.declared.Field.TheVariants.{Found}
-use Rattle.field.specs.declared.NumberField.TheVariants as N
-use Rattle.field.specs.declared.CountField.TheVariants as C
 use Rattle.field.specs.Fields.{field_from, between, number_field, count_field}
 use Rattle.header_text.specs.Text.{spaces}
 
@@ -70,7 +67,7 @@ unfolding digits_up_to
 digits-some k n = rw length-append (omega arith)
 
 -- a number of 32 bits is read from its digits
-pub number-decimal : (n : ℕ) → n < 4294967296 → number_of (decimal n) ≡ Value n
+pub number-decimal : (n : ℕ) → n < 4294967296 → number_of (decimal n) ≡ Some n
 unfolding number_of number_from
 number-decimal n h =
     let v : value_from 0 (decimal n) ≡ n = digits_value 10 n (omega arith) in
@@ -117,7 +114,7 @@ module _ (line : List ℕ) (at k : ℕ) (s r : List ℕ) (solid : Solid s) (some
   pub from_end : drop (at + k + length s) line ≡ 32 ∷ r
   from_end = sym (drop-drop (length s) (at + k) line) ∙ ap (drop (length s)) from_start ∙ drop-append_seam s (32 ∷ r)
 
-  field_is : field_from line at ≡ Found (at + k) (at + k + length s) (record { at = at + k + length s })
+  field_is : field_from line at ≡ Some (field_found (at + k) (at + k + length s) (record { at = at + k + length s }))
   unfolding field_from
   field_is =
       let a : passed (in_class Space) line at ≡ at + k = ap (λ (l : List ℕ). at + leading (in_class Space) l) stands ∙ ap (λ (n : ℕ). at + n) (space-run k s (32 ∷ r) solid some) in
@@ -130,15 +127,15 @@ module _ (line : List ℕ) (at k : ℕ) (s r : List ℕ) (solid : Solid s) (some
       let n : at + k + length s - (at + k) ≡ length s = omega arith in
       rw (n, from_start) (take-append_seam s (32 ∷ r))
 
-  pub number_read : (n : ℕ) → number_of s ≡ Value n → number_field line at ≡ N.Read n (record { at = at + k + length s })
+  pub number_read : (n : ℕ) → number_of s ≡ Some n → number_field line at ≡ Some (n, (record { at = at + k + length s }))
   unfolding number_field
   number_read n e = rw (field_is, text-is, e)
 
-  pub count-read : (n : ℕ) → is_minus_one s ≡ false → number_of s ≡ Value n → count_field line at ≡ C.Read n (record { at = at + k + length s })
+  pub count-read : (n : ℕ) → is_minus_one s ≡ false → number_of s ≡ Some n → count_field line at ≡ Some (Some n, record { at = at + k + length s })
   unfolding count_field
   count-read n m e = rw (field_is, text-is, m, e)
 
-  pub minus-read : is_minus_one s ≡ true → count_field line at ≡ C.MinusOne (record { at = at + k + length s })
+  pub minus-read : is_minus_one s ≡ true → count_field line at ≡ Some (None, record { at = at + k + length s })
   unfolding count_field
   minus-read m = rw (field_is, text-is, m)
 

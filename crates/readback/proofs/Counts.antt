@@ -1,5 +1,6 @@
 -- The two lines that the writer rewrites are read as the counts and the widths of the frame.
 -- Assumes nothing.
+use Rattle.std.specs.Prelude.{None, Ok, Option, Some}
 use mathlib.Core.Path.{◌≡◌, refl, ap, ◌∙◌}
 use mathlib.Core.Bool.{true, false}
 use mathlib.Core.List.{List, ◌∷◌, ◌++◌, append_assoc}
@@ -15,13 +16,8 @@ use Rattle.layout.specs.declared.Underflow.{Underflow}
 use Rattle.layout.specs.declared.Underflow.TheVariants as U
 use Rattle.layout.specs.declared.Form.{Form}
 use Rattle.layout.specs.Form.{width_bytes, underflow_bytes}
-use Rattle.numeral.specs.declared.Number.TheVariants.{Value}
 use Rattle.numeral.specs.Numerals.{number_of, is_minus_one}
-use Rattle.header.specs.declared.UnderflowCount.{UnderflowCount}
-use Rattle.header.specs.declared.UnderflowCount.TheVariants.{Unused, Count}
 use Rattle.header.specs.declared.Counts.TheVariants as K
-use Rattle.header.specs.declared.CountsAnswer.TheVariants as CA
-use Rattle.header.specs.declared.WidthsAnswer.TheVariants as WA
 use Rattle.header.specs.Body.{counts100, binary_counts, widths100, widths}
 use Rattle.expand.specs.Steps.{Stored}
 use Rattle.header_text.specs.Text.{spaces, cell, underflow_text, npixelb_data}
@@ -91,7 +87,7 @@ module _ (a b tail : List ℕ) (i j : ℕ) (wa : Word a) (wb : Word b) where
   at-third : drop third line ≡ spaces (suc j) ++ tail
   at-third = from_end line second (suc i) b _ wb.solid wb.some at_second
 
-  widths-line : (pixel underflow : ℕ) → number_of a ≡ Value pixel → number_of b ≡ Value underflow → widths100 line ≡ WA.Read (widths pixel underflow)
+  widths-line : (pixel underflow : ℕ) → number_of a ≡ Some pixel → number_of b ≡ Some underflow → widths100 line ≡ Ok (widths pixel underflow)
   unfolding widths100
   widths-line pixel underflow p q =
       rw (
@@ -100,11 +96,11 @@ module _ (a b tail : List ℕ) (i j : ℕ) (wa : Word a) (wb : Word b) where
       )
 
 -- three words, each with spaces behind it
-module _ (a b c : List ℕ) (i j k : ℕ) (wa : Word a) (wb : Word b) (wc : Word c) (two four : ℕ) (tb : number_of b ≡ Value two) (tc : number_of c ≡ Value four) where
+module _ (a b c : List ℕ) (i j k : ℕ) (wa : Word a) (wb : Word b) (wc : Word c) (two four : ℕ) (tb : number_of b ≡ Some two) (tc : number_of c ≡ Some four) where
   abbrev text : List ℕ
   text = line a b (c ++ spaces (suc k)) i j wa wb
 
-  binary-read : (u : UnderflowCount) → binary_counts text (0 + 0 + length a) u ≡ CA.Read (K.Format100 u two four)
+  binary-read : (u : Option ℕ) → binary_counts text (0 + 0 + length a) u ≡ Ok (K.Format100 u two four)
   unfolding binary_counts
   binary-read u =
       rw (
@@ -112,18 +108,18 @@ module _ (a b c : List ℕ) (i j k : ℕ) (wa : Word a) (wb : Word b) (wc : Word
         number_read text (0 + 0 + length a + suc i + length b) (suc j) c _ wc.solid wc.some (at-third a b (c ++ spaces (suc k)) i j wa wb) four tc,
       )
 
-  counted : (n : ℕ) → is_minus_one a ≡ false → number_of a ≡ Value n → counts100 text ≡ CA.Read (K.Format100 (Count n) two four)
+  counted : (n : ℕ) → is_minus_one a ≡ false → number_of a ≡ Some n → counts100 text ≡ Ok (K.Format100 (Some n) two four)
   unfolding counts100
-  counted n m e = rw (count-read text 0 0 a _ wa.solid wa.some (at_first a b (c ++ spaces (suc k)) i j wa wb) n m e) (binary-read (Count n))
+  counted n m e = rw (count-read text 0 0 a _ wa.solid wa.some (at_first a b (c ++ spaces (suc k)) i j wa wb) n m e) (binary-read (Some n))
 
-  unused : is_minus_one a ≡ true → counts100 text ≡ CA.Read (K.Format100 Unused two four)
+  unused : is_minus_one a ≡ true → counts100 text ≡ Ok (K.Format100 None two four)
   unfolding counts100
-  unused m = rw (minus-read text 0 0 a _ wa.solid wa.some (at_first a b (c ++ spaces (suc k)) i j wa wb) m) (binary-read Unused)
+  unused m = rw (minus-read text 0 0 a _ wa.solid wa.some (at_first a b (c ++ spaces (suc k)) i j wa wb) m) (binary-read None)
 
 -- the first number of NOVERFL for a kind
-abbrev pub count_for : Underflow → ℕ → UnderflowCount
-count_for U.None n = Unused
-count_for (U.Subtracted e) n = Count n
+abbrev pub count_for : Underflow → ℕ → Option ℕ
+count_for U.None n = None
+count_for (U.Subtracted e) n = Some n
 
 minus-word : Word (codes "-1")
 minus-word = record { solid = ((λ e. omega arith), ((λ e. omega arith), tt)); some = omega arith }
@@ -133,7 +129,7 @@ unfolding is_minus_one
 minus_is = refl
 
 first_read : (u : Underflow) (n two four : ℕ) → n < 4294967296 → two < 4294967296 → four < 4294967296
-    → counts100 (cell (underflow_text u n) ++ (cell (decimal two) ++ cell (decimal four))) ≡ CA.Read (K.Format100 (count_for u n) two four)
+    → counts100 (cell (underflow_text u n) ++ (cell (decimal two) ++ cell (decimal four))) ≡ Ok (K.Format100 (count_for u n) two four)
 first_read U.None n two four hn ht hf =
     rw (cell-is (codes "-1") (omega arith), cell-is (decimal two) (decimal-length two), cell-is (decimal four) (decimal-length four))
     (unused (codes "-1") (decimal two) (decimal four) (gap (codes "-1")) (gap (decimal two)) (gap (decimal four)) minus-word (word-decimal two) (word-decimal four) two four (number-decimal two ht) (number-decimal four hf) minus_is)
@@ -144,11 +140,11 @@ first_read (U.Subtracted e) n two four hn ht hf =
 
 -- NOVERFL as it is written
 pub counts-read : (form : Form) (s : Stored) → length s.under < 4294967296 → length s.two < 4294967296 → length s.four < 4294967296
-    → counts100 (noverfl_data form s) ≡ CA.Read (K.Format100 (count_for form.underflow (length s.under)) (length s.two) (length s.four))
+    → counts100 (noverfl_data form s) ≡ Ok (K.Format100 (count_for form.underflow (length s.under)) (length s.two) (length s.four))
 counts-read form s hu ht hf = ap counts100 (noverfl-is form s) ∙ first_read form.underflow (length s.under) (length s.two) (length s.four) hu ht hf
 
 -- NPIXELB as it is written
-pub widths-read : (form : Form) → widths100 (npixelb_data form) ≡ WA.Read (widths (width_bytes form.width) (underflow_bytes form.underflow))
+pub widths-read : (form : Form) → widths100 (npixelb_data form) ≡ Ok (widths (width_bytes form.width) (underflow_bytes form.underflow))
 widths-read form =
     let p : ℕ = width_bytes form.width in
     let u : ℕ = underflow_bytes form.underflow in

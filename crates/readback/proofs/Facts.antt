@@ -1,5 +1,6 @@
 -- The read-back of a frame that the writer gives, from its parts.
 -- Assumes nothing.
+use Rattle.layout.specs.Layout.{frame_read}
 use mathlib.Core.Path.{◌≡◌, refl, sym, ap, subst, ◌∙◌}
 use mathlib.Core.Bool.{true, false}
 use mathlib.Core.List.{List, [], ◌++◌, append_assoc}
@@ -10,7 +11,7 @@ use borrow.Author.Tests.{leb-true, le-ltb}
 use lib.Dec.{leb, ltb}
 use lib.ListN.{length, take, drop, length-append}
 use lib.Seq.{take_at, take_all}
-use Rattle.std.specs.Prelude.{if◌then◌else◌}
+use Rattle.std.specs.Prelude.{if◌then◌else◌, Ok, Some}
 use Rattle.lists.specs.Bytes.{zeros, held_bytes}
 use Rattle.lists.proofs.Tests.{and-true-right}
 use Rattle.refusal.specs.declared.Refusal.TheVariants as R
@@ -23,15 +24,11 @@ use Rattle.layout.specs.declared.Header.{Header}
 use Rattle.layout.specs.Form.{width_bytes, underflow_bytes}
 use Rattle.layout.specs.Layout.{pixel_count, table_bytes, binary_end}
 use Rattle.header.specs.declared.Format.TheVariants as G
-use Rattle.header.specs.declared.HeaderAnswer.TheVariants as A
 use Rattle.header.specs.Ranges.{is_size}
 use Rattle.header.specs.Header.{header_of}
 use Rattle.expand.specs.Steps.{Stored}
-use Rattle.expand.specs.declared.Expanded.TheVariants as X
 use Rattle.expand.specs.Expand.{binary_answer, binary_pixels}
-use Rattle.reader.specs.declared.ReadAnswer.TheVariants as S
 use Rattle.reader.specs.Reader.{read_answer, read_pixels}
-use Rattle.writer.specs.declared.AskedForm.TheVariants as F
 use Rattle.writer.specs.Storing.{stored_for}
 use Rattle.writer.specs.Frame.{rewritten, body_bytes, frame_bytes, frame_length}
 use Rattle.writer.specs.Writer.{Made, frame, refused, Base, base, no_base, base_for, underflow_too_large, made_with, writer_frame}
@@ -55,14 +52,14 @@ pub record Wrote (given : List ℕ) (h : Header) (t : BinaryTables) (form : Form
   pub small : underflow_too_large form.underflow (stored_in given h t form vs).under ≡ false
   pub bytes : frame_bytes (header_bytes given h) form (stored_in given h t form vs) ≡ f
 
-pub made_at : (given : List ℕ) (h : Header) (t : BinaryTables) (form : Form) (vs : List ℕ) → header_of given ≡ A.Accepted h → h.tables ≡ T.Format100 t → length vs ≡ pixel_count h.image
-    → writer_frame given (F.Listed form) vs ≡ made_with (header_bytes given h) form vs (base_of given h t form)
+pub made_at : (given : List ℕ) (h : Header) (t : BinaryTables) (form : Form) (vs : List ℕ) → header_of given ≡ Ok h → h.tables ≡ T.Format100 t → length vs ≡ pixel_count h.image
+    → writer_frame given (Some form) vs ≡ made_with (header_bytes given h) form vs (base_of given h t form)
 made_at given h t form vs e q all =
     writer-is given h t form vs e q
     ∙ rw (le-ltb (length vs) (pixel_count h.image) (omega arith), take_all (pixel_count h.image) vs (omega arith))
 
-pub wrote : (given : List ℕ) (h : Header) (t : BinaryTables) (form : Form) (vs f : List ℕ) → header_of given ≡ A.Accepted h → h.tables ≡ T.Format100 t → length vs ≡ pixel_count h.image
-    → writer_frame given (F.Listed form) vs ≡ frame f → Wrote given h t form vs f
+pub wrote : (given : List ℕ) (h : Header) (t : BinaryTables) (form : Form) (vs f : List ℕ) → header_of given ≡ Ok h → h.tables ≡ T.Format100 t → length vs ≡ pixel_count h.image
+    → writer_frame given (Some form) vs ≡ frame f → Wrote given h t form vs f
 wrote given h t form vs f e q all w =
     made-inv (header_bytes given h) form vs f (base_of given h t form) (sym (made_at given h t form vs e q all) ∙ w) (λ b is small bytes.
     let n : b ≡ base_number (base_of given h t form) = sym (ap base_number is) in
@@ -96,8 +93,8 @@ base_same : (header new : List ℕ) (t : BinaryTables) (u : Underflow) (b n : �
 base_same header new t U.None b n e = refl
 base_same header new t (U.Subtracted w) b n e = sym e
 
-module _ (given : List ℕ) (h : Header) (t : BinaryTables) (e : header_of given ≡ A.Accepted h) (q : h.tables ≡ T.Format100 t)
-    (form : Form) (vs : List ℕ) (all : length vs ≡ pixel_count h.image) (fits : Pixels vs) (f : List ℕ) (w : writer_frame given (F.Listed form) vs ≡ frame f) where
+module _ (given : List ℕ) (h : Header) (t : BinaryTables) (e : header_of given ≡ Ok h) (q : h.tables ≡ T.Format100 t)
+    (form : Form) (vs : List ℕ) (all : length vs ≡ pixel_count h.image) (fits : Pixels vs) (f : List ℕ) (w : writer_frame given (Some form) vs ≡ frame f) where
   abbrev b : ℕ
   b = base_number (base_of given h t form)
 
@@ -129,7 +126,7 @@ module _ (given : List ℕ) (h : Header) (t : BinaryTables) (e : header_of given
   unfolding held_bytes
   held-parts n = ap (λ (l : List ℕ). l ++ zeros (n - length f)) frame-parts ∙ append_assoc new (body_bytes form s) _
 
-  pub held-header : (n : ℕ) → header_of (held_bytes n f) ≡ A.Accepted (header_for form h.image.start h.image.rows h.image.columns b s)
+  pub held-header : (n : ℕ) → header_of (held_bytes n f) ≡ Ok (header_for form h.image.start h.image.rows h.image.columns b s)
   held-header n =
       ap header_of (held-parts n)
       ∙ header-back given h starts form s (body_bytes form s ++ zeros (n - length f)) b known
@@ -153,16 +150,16 @@ module _ (given : List ℕ) (h : Header) (t : BinaryTables) (e : header_of given
       ∙ sym (length-append new (body_bytes form s))
       ∙ ap length (sym frame-parts)
 
-  pub held-answer : (n places : ℕ) → length vs ≤ places → read_answer (held_bytes n f) places ≡ S.Frame h.image.rows h.image.columns (length f)
+  pub held-answer : (n places : ℕ) → length vs ≤ places → read_answer (held_bytes n f) places ≡ Ok (frame_read h.image.rows h.image.columns (length f))
   unfolding read_answer
   held-answer n places room =
       let z : List ℕ = zeros (n - length f) in
       let i = image_for form (length new) h.image.rows h.image.columns in
-      let d : binary_answer (held_bytes n f) (image_for form h.image.start h.image.rows h.image.columns) (tables_for form b s) places ≡ X.Frame (length f) =
+      let d : binary_answer (held_bytes n f) (image_for form h.image.start h.image.rows h.image.columns) (tables_for form b s) places ≡ Ok (length f) =
       ap (λ (x : ℕ). binary_answer (held_bytes n f) (image_for form x h.image.rows h.image.columns) (tables_for form b s) places) (sym start_is)
       ∙ ap (λ (l : List ℕ). binary_answer l i (tables_for form b s) places) (held-parts n)
       ∙ body-answer form b h.image.rows h.image.columns vs new z area pixels-fit entries_fit places room
-      ∙ ap X.Frame frame-end in
+      ∙ ap Ok frame-end in
       rw (held-header n, d)
 
   pub held-pixels : (n : ℕ) (px : List ℕ) → length vs ≤ length px → read_pixels (held_bytes n f) px ≡ vs ++ drop (length vs) px
@@ -177,7 +174,7 @@ module _ (given : List ℕ) (h : Header) (t : BinaryTables) (e : header_of given
       rw (held-header n, d)
 
   -- the writer's answer from the held frame
-  pub held-writer : (n : ℕ) (px : List ℕ) → writer_frame (held_bytes n f) (F.Listed form) px ≡ writer_frame given (F.Listed form) px
+  pub held-writer : (n : ℕ) (px : List ℕ) → writer_frame (held_bytes n f) (Some form) px ≡ writer_frame given (Some form) px
   held-writer n px =
       let g : Header = header_for form h.image.start h.image.rows h.image.columns b s in
       let l : header_bytes (held_bytes n f) g ≡ new = ap (take h.image.start) (held-parts n) ∙ take_at new (body_bytes form s ++ zeros (n - length f)) h.image.start start_is in

@@ -1,5 +1,6 @@
 -- A written frame in a held buffer: 19 is not due, and the buffer's form, number of pixels and pixels are those written.
 -- Assumes nothing.
+use Rattle.std.specs.Prelude.{Ok, Some}
 use mathlib.Core.Path.{◌≡◌, refl, sym, ap, ◌∙◌}
 use mathlib.Core.Bool.{true, ◌&&◌}
 use mathlib.Core.List.{List, ◌++◌, append-nil}
@@ -17,16 +18,14 @@ use Rattle.layout.specs.declared.Tables.TheVariants as T
 use Rattle.layout.specs.declared.Form.{Form}
 use Rattle.layout.specs.declared.Header.{Header}
 use Rattle.layout.specs.Layout.{pixel_count}
-use Rattle.header.specs.declared.HeaderAnswer.TheVariants as A
 use Rattle.header.specs.Header.{header_of}
 use Rattle.reader.specs.Reader.{read_answer, read_pixels}
-use Rattle.writer.specs.declared.AskedForm.TheVariants as F
 use Rattle.writer.specs.Writer.{Made, frame, refused, writer_frame}
 use Rattle.readback.specs.Written.{Pixels, underflows_for}
 use Rattle.readback.specs.Held.{named_by, held_count, held_form, held_pixels, is_frame, is_read, is_held}
 use Rattle.readback.proofs.ReadBack.{header-back, answer_back, pixels-back, frame_back}
 
-named : (w : Width) (u : Underflow) (b n : ℕ) → named_by w (underflows_for u b n) ≡ F.Listed (record { width = w; underflow = u })
+named : (w : Width) (u : Underflow) (b n : ℕ) → named_by w (underflows_for u b n) ≡ Some (record { width = w; underflow = u })
 named w U.None b n = refl
 named w (U.Subtracted e) b n = refl
 
@@ -45,9 +44,9 @@ again n f =
     let e : length (f ++ zeros (n - length f)) - length f ≡ n - length f = rw (length-append, length-replicate) (omega arith) in
     rw e
 
-module _ (given : List ℕ) (h : Header) (t : BinaryTables) (accepted : header_of given ≡ A.Accepted h) (binary : h.tables ≡ T.Format100 t)
-    (form : Form) (vs : List ℕ) (all : length vs ≡ pixel_count h.image) (fits : Pixels vs) (f : List ℕ) (written : writer_frame given (F.Listed form) vs ≡ frame f) (n : ℕ) where
-  pub form-held : held_form (held_bytes n f) ≡ F.Listed form
+module _ (given : List ℕ) (h : Header) (t : BinaryTables) (accepted : header_of given ≡ Ok h) (binary : h.tables ≡ T.Format100 t)
+    (form : Form) (vs : List ℕ) (all : length vs ≡ pixel_count h.image) (fits : Pixels vs) (f : List ℕ) (written : writer_frame given (Some form) vs ≡ frame f) (n : ℕ) where
+  pub form-held : held_form (held_bytes n f) ≡ Some form
   unfolding held_form
   form-held = rw (header-back given h t accepted binary form vs all fits f written n) (named form.width form.underflow _ _)
 

@@ -9,16 +9,12 @@ use native.Mathlib.Omega.{arith}
 use borrow.Author.Tests.{le-leb, le-ltb}
 use lib.Dec.{leb}
 use lib.ListN.{length, take, drop}
-use Rattle.std.specs.Prelude.{if◌then◌else◌}
+use Rattle.std.specs.Prelude.{if◌then◌else◌, Err, None, Option, Some, ℕ}
 use Rattle.refusal.specs.declared.Refusal.TheVariants as R
 use Rattle.field.specs.Fields.{number_field}
 use Rattle.header_lines.specs.declared.LineId.{LineId}
 use Rattle.header_lines.specs.declared.LineId.TheVariants as I
-use Rattle.header_lines.specs.declared.Place.{Place}
-use Rattle.header_lines.specs.declared.Place.TheVariants.{At, Wrong}
 use Rattle.header_lines.specs.Lines.{line_of, position_of, starts_with, place_in, place_of, data_at, on_line}
-use Rattle.header.specs.declared.LeadAnswer.TheVariants as L
-use Rattle.header.specs.declared.ValueAnswer.TheVariants as VA
 use Rattle.header.specs.Steps.{line_number, value_of, number_in}
 use Rattle.header.specs.Lead.{lead_of}
 use Rattle.header.specs.Body.{baseline_text, baseline_of}
@@ -60,10 +56,10 @@ module _ (s t : List ℕ) (id : LineId) (ends : leb (position_of id * 80 + 80) (
     pub same_line : {A : Type 0} (wrong : A) (go on : List ℕ → A) → ((l : List ℕ) → go l ≡ on l) → on_line s id wrong go ≡ on_line t id wrong on
     unfolding place_in
     same_line wrong go on e =
-        ap (λ (p : Place). data_at s p wrong go) same_place
+        ap (λ (p : Option ℕ). data_at s p wrong go) same_place
         ∙ each (leb (position_of id * 80 + 80) (length t) && starts_with (line_of id).name (drop (position_of id * 80) t)) (position_of id * 80 + 8) texts
       where
-        each : (b : Bool) (p : ℕ) → take 72 (drop p s) ≡ take 72 (drop p t) → data_at s (if◌then◌else◌ b (At p) Wrong) wrong go ≡ data_at t (if◌then◌else◌ b (At p) Wrong) wrong on
+        each : (b : Bool) (p : ℕ) → take 72 (drop p s) ≡ take 72 (drop p t) → data_at s (if◌then◌else◌ b (Some p) None) wrong go ≡ data_at t (if◌then◌else◌ b (Some p) None) wrong on
         each true p q = ap go q ∙ e (take 72 (drop p t))
         each false p q = refl
 
@@ -76,9 +72,9 @@ module _ (s t : List ℕ) (ls : 240 ≤ length s) (lt : 240 ≤ length t) (same 
   unfolding lead_of line_of
   same-lead =
       rw (le-ltb (length s) 240 ls, le-ltb (length t) 240 lt)
-      (same_line s t I.Format (ends 80 (omega arith)) (same 0 8 (omega arith)) (same 8 72 (omega arith)) (L.Refused R.WrongName) _ _ (λ format.
-      same_line s t I.Version (ends 160 (omega arith)) (same 80 8 (omega arith)) (same 88 72 (omega arith)) (L.Refused R.WrongName) _ _ (λ version.
-      same_line s t I.Hdrblks (ends 240 (omega arith)) (same 160 8 (omega arith)) (same 168 72 (omega arith)) (L.Refused R.WrongName) _ _ (λ blocks. refl))))
+      (same_line s t I.Format (ends 80 (omega arith)) (same 0 8 (omega arith)) (same 8 72 (omega arith)) (Err R.WrongName) _ _ (λ format.
+      same_line s t I.Version (ends 160 (omega arith)) (same 80 8 (omega arith)) (same 88 72 (omega arith)) (Err R.WrongName) _ _ (λ version.
+      same_line s t I.Hdrblks (ends 240 (omega arith)) (same 160 8 (omega arith)) (same 168 72 (omega arith)) (Err R.WrongName) _ _ (λ blocks. refl))))
 
 -- the lines that the writer leaves as they are
 module _ (s t : List ℕ) (g : Agree s t) where
@@ -99,8 +95,8 @@ module _ (s t : List ℕ) (g : Agree s t) where
 
   pub same_number : (id : LineId) → 3200 ≤ position_of id * 80 → number_in id s ≡ number_in id t
   unfolding number_in
-  same_number id h = same_back id h (VA.Refused R.BadLine) (λ text. value_of (line_number id (number_field text 0)))
+  same_number id h = same_back id h (Err R.BadLine) (λ text. value_of (line_number id (number_field text 0)))
 
   pub same-baseline : baseline_of s ≡ baseline_of t
   unfolding baseline_of line_of
-  same-baseline = same_back I.Nexp (omega arith) (VA.Refused R.BadLine) (λ text. baseline_text text)
+  same-baseline = same_back I.Nexp (omega arith) (Err R.BadLine) (λ text. baseline_text text)

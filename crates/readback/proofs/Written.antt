@@ -9,7 +9,7 @@ use native.Mathlib.Omega.{arith}
 use borrow.Author.Tests.{leb-true, leb-false, le-ltb, ltb-false}
 use lib.Dec.{leb, ltb}
 use lib.ListN.{length, get_or, take}
-use Rattle.std.specs.Prelude.{if◌then◌else◌}
+use Rattle.std.specs.Prelude.{if◌then◌else◌, Err, Ok, Result, Some, ℕ}
 use Rattle.refusal.specs.declared.Refusal.{Refusal}
 use Rattle.refusal.specs.declared.Refusal.TheVariants as R
 use Rattle.layout.specs.declared.EntryWidth.TheVariants as E
@@ -22,12 +22,8 @@ use Rattle.layout.specs.declared.Tables.TheVariants as T
 use Rattle.layout.specs.declared.Form.{Form}
 use Rattle.layout.specs.declared.Header.{Header}
 use Rattle.layout.specs.Layout.{pixel_count}
-use Rattle.header.specs.declared.ValueAnswer.{ValueAnswer}
-use Rattle.header.specs.declared.ValueAnswer.TheVariants as VA
-use Rattle.header.specs.declared.HeaderAnswer.TheVariants as A
 use Rattle.header.specs.Body.{baseline_of}
 use Rattle.header.specs.Header.{header_of}
-use Rattle.writer.specs.declared.AskedForm.TheVariants as F
 use Rattle.writer.specs.Storing.{under_entries, stored_for}
 use Rattle.pixel_counts.specs.Counts.{is_underflow, any_above255}
 use Rattle.lists.specs.Only.{only}
@@ -40,8 +36,8 @@ use Rattle.readback.proofs.Sound.{Based}
 use Rattle.readback.proofs.HeaderBack.{Known}
 
 -- the writer's answer, from a header that is accepted
-pub writer-is : (given : List ℕ) (h : Header) (t : BinaryTables) (form : Form) (px : List ℕ) → header_of given ≡ A.Accepted h → h.tables ≡ T.Format100 t
-    → writer_frame given (F.Listed form) px
+pub writer-is : (given : List ℕ) (h : Header) (t : BinaryTables) (form : Form) (px : List ℕ) → header_of given ≡ Ok h → h.tables ≡ T.Format100 t
+    → writer_frame given (Some form) px
     ≡ if◌then◌else◌ (ltb (length px) (pixel_count h.image)) (refused R.PixelArrayShort)
     (made_with (header_bytes given h) form (take (pixel_count h.image) px) (base_of given h t form))
 unfolding writer_frame
@@ -62,19 +58,19 @@ made-inv {P} header form vs f (base b) e k = go (underflow_too_large form.underf
 made-inv header form vs f no_base e k = absurd (unmade e)
 
 -- the baseline is line 79's
-line_known : (header : List ℕ) (a : ValueAnswer) (b : ℕ) → baseline_of header ≡ a → line_base a ≡ base b → (baseline_of header ≡ VA.Read b) × (b ≤ 65535)
-line_known header (VA.Read n) b e q = go (leb n 65535) refl q
+line_known : (header : List ℕ) (a : Result ℕ Refusal) (b : ℕ) → baseline_of header ≡ a → line_base a ≡ base b → (baseline_of header ≡ Ok b) × (b ≤ 65535)
+line_known header (Ok n) b e q = go (leb n 65535) refl q
   where
-    go : (t : Bool) → leb n 65535 ≡ t → if◌then◌else◌ t (base n) no_base ≡ base b → (baseline_of header ≡ VA.Read b) × (b ≤ 65535)
-    go true l p = let z : n ≡ b = cc in (e ∙ ap VA.Read z, omega (arith, leb-true n 65535 l))
+    go : (t : Bool) → leb n 65535 ≡ t → if◌then◌else◌ t (base n) no_base ≡ base b → (baseline_of header ≡ Ok b) × (b ≤ 65535)
+    go true l p = let z : n ≡ b = cc in (e ∙ ap Ok z, omega (arith, leb-true n 65535 l))
     go false l p = let z : ◌≡◌ {A = ℕ} 0 1 = cc in absurd (omega arith)
-line_known header (VA.Refused r) b e q = let z : ◌≡◌ {A = ℕ} 0 1 = cc in absurd (omega arith)
+line_known header (Err r) b e q = let z : ◌≡◌ {A = ℕ} 0 1 = cc in absurd (omega arith)
 
 pub base-known : (header : List ℕ) (u : Underflows) (k : Underflow) (b : ℕ) → Based header u → base_for header u k ≡ base b → Known header k b
 base-known header u U.None b d e = tt
 base-known header H.Unused (U.Subtracted w) b d e = line_known header (baseline_of header) b refl e
-base-known header (H.NoWidth c) (U.Subtracted w) b d e = let z : c ≡ b = cc in (d.0 ∙ ap VA.Read z, omega (arith, d.1))
-base-known header (H.Counted w n c) (U.Subtracted x) b d e = let z : c ≡ b = cc in (d.0 ∙ ap VA.Read z, omega (arith, d.1))
+base-known header (H.NoWidth c) (U.Subtracted w) b d e = let z : c ≡ b = cc in (d.0 ∙ ap Ok z, omega (arith, d.1))
+base-known header (H.Counted w n c) (U.Subtracted x) b d e = let z : c ≡ b = cc in (d.0 ∙ ap Ok z, omega (arith, d.1))
 
 -- the underflow entries fit their width
 neither : (p q : Bool) → (p || q) ≡ false → (p ≡ false) × (q ≡ false)

@@ -7,8 +7,8 @@
 ghost use Rattle.std.specs.Prelude.{◌≡◌, ◌+◌, ◌≤◌, ◌<◌, length};
 
 use console::Output;
-use numeral::Number;
-use reader::ReadAnswer;
+use layout::Frame;
+use refusal::Refusal;
 use std::io;
 use std::io::Write;
 
@@ -57,7 +57,7 @@ fn number(stdout: &mut Output, text: &[u8], n: u64) -> io::Result<()> {
 fn value(text: &[u8]) -> usize
     ensures { result ≤ 10000 }
 {
-    let Number::Value(n) = numeral::number_of(text) else {
+    let Some(n) = numeral::number_of(text) else {
         return 0;
     };
     if n <= 10000 { n as usize } else { 10000 }
@@ -210,14 +210,14 @@ fn show_pixels(stdout: &mut Output, pixels: &[u32]) -> io::Result<()> {
     Ok(())
 }
 
-fn show(stdout: &mut Output, answer: ReadAnswer) -> io::Result<()> {
+fn show(stdout: &mut Output, answer: Result<Frame, Refusal>) -> io::Result<()> {
     match answer {
-        ReadAnswer::Frame { rows, columns, end } => {
+        Ok(Frame { rows, columns, end }) => {
             number(stdout, b" -> frame ", rows as u64)?;
             number(stdout, b" x ", columns as u64)?;
             number(stdout, b" end ", end)
         }
-        ReadAnswer::Refused(r) => {
+        Err(r) => {
             number(stdout, b" -> refused ", refusal::number_of(r) as u64)?;
             number(stdout, b" place ", refusal::place_of(r) as u64)
         }

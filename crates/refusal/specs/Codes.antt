@@ -1,5 +1,5 @@
 -- Document 01, "Numbers given back", and the requests of document 02: the number of each refusal, and the value that goes with it.
-use Rattle.std.specs.Prelude.{ℕ}
+use Rattle.std.specs.Prelude.{ℕ, Result, Ok, Err}
 use Rattle.refusal.specs.declared.Refusal.{Refusal}
 use Rattle.refusal.specs.declared.Refusal.TheVariants as R
 use Rattle.refusal.specs.declared.Code.{Code}
@@ -113,3 +113,8 @@ refusal_place R.HeaderBufferShort = 0
 -- a refusal as its number and its value
 abbrev pub code_of : Refusal → Code
 code_of r = record { number = refusal_number r; place = refusal_place r }
+
+-- the refusal of an answer that is one; elsewhere it stands for nothing
+abbrev pub refusal_of : {A : Type 0} → Result A Refusal → Refusal
+refusal_of (Ok a) = R.OutOfRange
+refusal_of (Err r) = r

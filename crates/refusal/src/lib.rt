@@ -2,7 +2,7 @@
 #![tactic(auto)]
 
 ghost use Rattle.std.specs.Prelude.{◌≡◌};
-ghost use Rattle.refusal.specs.Codes.{refusal_number, refusal_place, code_of};
+ghost use Rattle.refusal.specs.Codes.{refusal_number, refusal_place, code_of, refusal_of};
 
 // One case for each number of document 01's table and of document 02's requests, in their order; specs/Codes.antt gives the numbers.
 #[derive(Clone, Copy)]
@@ -54,6 +54,7 @@ pub struct Code {
     pub place: u32,
 }
 
+// Written out: an enum whose cases hold values has no numbers of its own in this language.
 pub fn number_of(r: Refusal) -> u32
     ensures { result ≡ refusal_number r }
 {
@@ -103,52 +104,29 @@ pub fn place_of(r: Refusal) -> u32
     ensures { result ≡ refusal_place r }
 {
     match r {
-        Refusal::HeaderTruncated => 0,
-        Refusal::WrongName => 0,
         Refusal::BadField { line } => line,
-        Refusal::UnknownFormat => 0,
-        Refusal::UnknownVersion => 0,
-        Refusal::BadHeaderBlocks => 0,
-        Refusal::BadLine => 0,
-        Refusal::OutOfRange => 0,
-        Refusal::NotLinear => 0,
-        Refusal::PixelArrayShort => 0,
-        Refusal::DataTruncated => 0,
-        Refusal::PaddingNotZero => 0,
         Refusal::BadEntry { entry } => entry,
-        Refusal::CountMismatch => 0,
-        Refusal::SumTooLarge => 0,
-        Refusal::FormUnavailable => 0,
-        Refusal::UnderflowTooLarge => 0,
-        Refusal::OutputShort => 0,
-        Refusal::HeldNotCanonical => 0,
-        Refusal::LedgerMalformed => 0,
-        Refusal::LedgerFull => 0,
-        Refusal::NothingStands => 0,
-        Refusal::PixelDiffers => 0,
-        Refusal::NoSuchPixel => 0,
-        Refusal::NotADate => 0,
-        Refusal::NoKeepLine => 0,
-        Refusal::NotYet => 0,
-        Refusal::BadPlateSize => 0,
-        Refusal::PlateMismatch => 0,
-        Refusal::UnderflowBufferShort => 0,
-        Refusal::LastIsKeep => 0,
-        Refusal::BadHeaderStart => 0,
-        Refusal::BadSyntax => 0,
-        Refusal::BadContent => 0,
-        Refusal::UnsupportedData => 0,
-        Refusal::TenthsArrayShort => 0,
-        Refusal::NoSuchEntry => 0,
-        Refusal::HeaderBufferShort => 0,
+        _ => 0,
     }
 }
 
-pub fn code_of(r: Refusal) -> Code
-    ensures { result ≡ code_of r }
+impl From<Refusal> for Code {
+    ghost from_gives = { λ r code. code ≡ code_of r };
+
+    fn from(r: Refusal) -> Code {
+        Code {
+            number: number_of(r),
+            place: place_of(r),
+        }
+    }
+}
+
+// The refusal of an answer that is known to be one, where `let .. else` has taken it apart; for another answer it stands for nothing.
+pub fn refusal_of<T: Drop>(answer: Result<T, Refusal>) -> Refusal
+    ensures { result ≡ refusal_of answer }
 {
-    Code {
-        number: number_of(r),
-        place: place_of(r),
+    match answer {
+        Ok(_) => Refusal::OutOfRange,
+        Err(r) => r,
     }
 }

@@ -1,5 +1,9 @@
 -- Where 19 and 24 are not due: the pixel's place, and what the writer makes of the changed counts.
 -- Assumes nothing.
+use Rattle.canonical.specs.declared.Unlocated.TheVariants.{NoPixel}
+use Rattle.canonical.specs.declared.Unlocated.TheVariants.{NotCanonical}
+use Rattle.canonical.specs.declared.Unlocated.{Unlocated}
+use Rattle.refusal.specs.declared.Refusal.{Refusal}
 use mathlib.Core.Path.{◌≡◌, refl, sym, ap, ◌∙◌, subst}
 use mathlib.Core.Bool.{Bool, true, false, not, ◌||◌}
 use mathlib.Core.List.{List, [], ◌∷◌, ◌++◌}
@@ -10,7 +14,7 @@ use borrow.Author.Tests.{leb-false, ltb-false}
 use lib.Dec.{leb, ltb}
 use lib.ListN.{length, take, drop, set, get_or, length-set}
 use lib.Seq.{length-take-le}
-use Rattle.std.specs.Prelude.{if◌then◌else◌}
+use Rattle.std.specs.Prelude.{if◌then◌else◌, Err, Ok, Option, Result, Some, ℕ}
 use Rattle.lists.specs.Bytes.{held_bytes}
 use Rattle.refusal.specs.declared.Refusal.TheVariants as R
 use Rattle.layout.specs.declared.Width.{Width}
@@ -25,8 +29,6 @@ use Rattle.header.specs.Header.{header_of}
 use Rattle.header.proofs.Accepted.{BaselineGood, TablesGood, AcceptedBounds, accepted-bounds}
 use Rattle.expand.specs.Expand.{baseline_of}
 use Rattle.expand.specs.Steps.{Stored}
-use Rattle.writer.specs.declared.AskedForm.{AskedForm}
-use Rattle.writer.specs.declared.AskedForm.TheVariants as F
 use Rattle.writer.specs.Storing.{stored_for}
 use Rattle.writer.specs.Frame.{frame_bytes}
 use Rattle.writer.specs.Writer.{frame, refused, base_for, underflow_too_large, made_of, made_with, writer_frame, output_of}
@@ -36,11 +38,7 @@ use Rattle.readback.specs.Held.{named_by, held_count, held_form, held_pixels, is
 use Rattle.readback.proofs.Facts.{Wrote, wrote, made_at}
 use Rattle.readback.proofs.HeldOpened.{Opened, opened, count_of}
 use Rattle.canonical.specs.declared.Place.{Place}
-use Rattle.canonical.specs.declared.Located.TheVariants as L
-use Rattle.canonical.specs.Located.{form_in, base_by, place_in, located}
-use Rattle.replacement.specs.declared.Expected.{Expected}
-use Rattle.replacement.specs.declared.Replaced.{Replaced}
-use Rattle.replacement.specs.declared.Replaced.TheVariants.{Done, Refused}
+use Rattle.canonical.specs.Located.{form_in, base_by, place_in, located, unlocated}
 use Rattle.replacement.specs.Replaced.{Placed, stored_one, replaced_bytes}
 use Rattle.replacement.specs.Replace.{meets, changed_frame, replaced_as, replace_answer, replace_bytes}
 use Rattle.replacement.specs.Answered.{too_large, length_after, placed_answer, placed_bytes}
@@ -48,12 +46,12 @@ use Rattle.replacement.proofs.Placed.{length-after, placed-law}
 use Rattle.replacement.proofs.Values.{stored_at, stored-set}
 
 -- the baseline of the form that a header names is the header's
-none-base : (header : List ℕ) (w : Width) (form : Form) → named_by w H.Unused ≡ F.Listed form → base_number (base_for header H.Unused form.underflow) ≡ 0
+none-base : (header : List ℕ) (w : Width) (form : Form) → named_by w H.Unused ≡ Some form → base_number (base_for header H.Unused form.underflow) ≡ 0
 none-base header w form e =
     let g : record { width = w; underflow = U.None } ≡ form = cc in
     rw (← g)
 
-base-is : (header : List ℕ) (w : Width) (u : Underflows) (form : Form) → named_by w u ≡ F.Listed form → base_number (base_for header u form.underflow) ≡ baseline_of u
+base-is : (header : List ℕ) (w : Width) (u : Underflows) (form : Form) → named_by w u ≡ Some form → base_number (base_for header u form.underflow) ≡ baseline_of u
 base-is header w H.Unused form e = none-base header w form e
 base-is header w (H.NoWidth b) form e = let z : ◌≡◌ {A = ℕ} 0 1 = cc in absurd (omega arith)
 base-is header w (H.Counted x n b) form e =
@@ -126,7 +124,7 @@ module _ (held : List ℕ) (pixel : ℕ) (is : is_held held ≡ true) (inside : 
   made : Wrote held h o.tables o.form vs o.bytes
   made = wrote held h o.tables o.form vs o.bytes o.accepted o.binary o.all o.written
 
-  form-is : named_by h.image.width o.tables.underflows ≡ F.Listed o.form
+  form-is : named_by h.image.width o.tables.underflows ≡ Some o.form
   unfolding held_form
   form-is = rw (o.accepted, o.binary) at o.named
 
@@ -153,7 +151,7 @@ module _ (held : List ℕ) (pixel : ℕ) (is : is_held held ≡ true) (inside : 
   -- the writer's frame for other counts
   frame-of : (ws : List ℕ) → length ws ≡ length vs → writer_frame held (held_form held) ws ≡ made_of header o.form (stored_for o.form base ws)
   frame-of ws e =
-      ap (λ (a : AskedForm). writer_frame held a ws) o.named
+      ap (λ (a : Option Form). writer_frame held a ws) o.named
       ∙ made_at held h o.tables o.form ws o.accepted o.binary (e ∙ o.all)
       ∙ ap (made_with header o.form ws) made.based
       ∙ ap (λ (b : ℕ). made_of header o.form (stored_for o.form b ws)) base-of
@@ -187,7 +185,7 @@ module _ (held : List ℕ) (pixel : ℕ) (is : is_held held ≡ true) (inside : 
   found = record { placed = placed; changed = changed }
 
 -- the answer and the bytes from the place are those asked for
-module _ (held : List ℕ) (pixel : ℕ) (g : Found held pixel) (expected : Expected) (count : ℕ) where
+module _ (held : List ℕ) (pixel : ℕ) (g : Found held pixel) (expected : Option ℕ) (count : ℕ) where
   abbrev p : Place
   p = place_in held pixel
 
@@ -206,10 +204,10 @@ module _ (held : List ℕ) (pixel : ℕ) (g : Found held pixel) (expected : Expe
       (sym (ap (λ (s : Stored). underflow_too_large p.form.underflow s.under) (stored_at p.form p.baseline f.counts pixel f.inside)) ∙ f.fits) in
       g.changed count ∙ ap (λ (t : Bool). if◌then◌else◌ t (refused R.UnderflowTooLarge) (frame new)) e
 
-  answer-by : (t : Bool) → if◌then◌else◌ t (Refused R.UnderflowTooLarge) (if◌then◌else◌ (ltb (length held) (length_after p count)) (Refused R.OutputShort) (Done p.old))
+  answer-by : (t : Bool) → if◌then◌else◌ t (Err R.UnderflowTooLarge) (if◌then◌else◌ (ltb (length held) (length_after p count)) (Err R.OutputShort) (Ok p.old))
       ≡ replaced_as (length held) p.old (if◌then◌else◌ t (refused R.UnderflowTooLarge) (frame new))
   answer-by true = refl
-  answer-by false = ap (λ (n : ℕ). if◌then◌else◌ (ltb (length held) n) (Refused R.OutputShort) (Done p.old)) (length-after held p pixel g.placed count)
+  answer-by false = ap (λ (n : ℕ). if◌then◌else◌ (ltb (length held) n) (Err R.OutputShort) (Ok p.old)) (length-after held p pixel g.placed count)
 
   bytes-by : (t : Bool) → if◌then◌else◌ t held (if◌then◌else◌ (ltb (length held) (length_after p count)) held (replaced_bytes p pixel count held))
       ≡ output_of held (if◌then◌else◌ t (refused R.UnderflowTooLarge) (frame new))
@@ -224,7 +222,7 @@ module _ (held : List ℕ) (pixel : ℕ) (g : Found held pixel) (expected : Expe
   pub answer-is : is_held held ≡ true → leb (held_count held) pixel ≡ false → placed_answer held p expected count ≡ replace_answer held pixel expected count
   unfolding placed_answer replace_answer place_in
   answer-is a b =
-      rw (a, b) (ap (λ (r : Replaced). if◌then◌else◌ (not (meets expected p.old)) (Refused R.PixelDiffers) r) (answer-by (too_large p count) ∙ ap (replaced_as (length held) p.old) (sym made-is)))
+      rw (a, b) (ap (λ (r : Result ℕ Refusal). if◌then◌else◌ (not (meets expected p.old)) (Err R.PixelDiffers) r) (answer-by (too_large p count) ∙ ap (replaced_as (length held) p.old) (sym made-is)))
 
   pub bytes-are : is_held held ≡ true → leb (held_count held) pixel ≡ false → placed_bytes held p pixel expected count ≡ replace_bytes held pixel expected count
   unfolding placed_bytes replace_bytes place_in
@@ -232,40 +230,32 @@ module _ (held : List ℕ) (pixel : ℕ) (g : Found held pixel) (expected : Expe
       rw (a, b) (ap (λ (r : List ℕ). if◌then◌else◌ (not (meets expected p.old)) held r) (bytes-by (too_large p count) ∙ ap (output_of held) (sym made-is)))
 
 -- What `replace` makes of the check's answer.
-module _ (held : List ℕ) (pixel : ℕ) (expected : Expected) (count : ℕ) where
-  abbrev Same : Replaced → List ℕ → Type 0
+module _ (held : List ℕ) (pixel : ℕ) (expected : Option ℕ) (count : ℕ) where
+  abbrev Same : Result ℕ Refusal → List ℕ → Type 0
   Same r b = (r ≡ replace_answer held pixel expected count) × (b ≡ replace_bytes held pixel expected count)
 
-  pub not-canonical : located held pixel ≡ L.NotCanonical → Same (Refused R.HeldNotCanonical) held
+  -- 19 and 24
+  pub refused-same : (u : Unlocated) → located held pixel ≡ Err u → Same (Err (unlocated u)) held
   unfolding located replace_answer replace_bytes
-  not-canonical e = go (is_held held) (leb (held_count held) pixel) refl refl
+  refused-same u e = go (is_held held) (leb (held_count held) pixel) refl refl
     where
-      go : (a b : Bool) → is_held held ≡ a → leb (held_count held) pixel ≡ b → Same (Refused R.HeldNotCanonical) held
-      go false b x y = (rw x, rw x)
-      go true true x y = let f : L.NoPixel ≡ L.NotCanonical = rw (x, y) at e in let z : ◌≡◌ {A = ℕ} 0 1 = cc in absurd (omega arith)
-      go true false x y = let f : L.At (place_in held pixel) ≡ L.NotCanonical = rw (x, y) at e in let z : ◌≡◌ {A = ℕ} 0 1 = cc in absurd (omega arith)
-
-  pub no-pixel : located held pixel ≡ L.NoPixel → Same (Refused R.NoSuchPixel) held
-  unfolding located replace_answer replace_bytes
-  no-pixel e = go (is_held held) (leb (held_count held) pixel) refl refl
-    where
-      go : (a b : Bool) → is_held held ≡ a → leb (held_count held) pixel ≡ b → Same (Refused R.NoSuchPixel) held
-      go false b x y = let f : L.NotCanonical ≡ L.NoPixel = rw x at e in let z : ◌≡◌ {A = ℕ} 0 1 = cc in absurd (omega arith)
-      go true true x y = (rw (x, y), rw (x, y))
-      go true false x y = let f : L.At (place_in held pixel) ≡ L.NoPixel = rw (x, y) at e in let z : ◌≡◌ {A = ℕ} 0 1 = cc in absurd (omega arith)
+      go : (a b : Bool) → is_held held ≡ a → leb (held_count held) pixel ≡ b → Same (Err (unlocated u)) held
+      go false b x y = let f : Err NotCanonical ≡ Err u = rw x at e in let g : NotCanonical ≡ u = cc in rw (← g) (rw x, rw x)
+      go true true x y = let f : Err NoPixel ≡ Err u = rw (x, y) at e in let g : NoPixel ≡ u = cc in rw (← g) (rw (x, y), rw (x, y))
+      go true false x y = let f : Ok (place_in held pixel) ≡ Err u = rw (x, y) at e in let z : ◌≡◌ {A = ℕ} 0 1 = cc in absurd (omega arith)
 
   -- the place's own
-  pub at_place : (q : Place) → located held pixel ≡ L.At q
+  pub at_place : (q : Place) → located held pixel ≡ Ok q
       → Placed held q pixel × (placed_answer held q expected count ≡ replace_answer held pixel expected count) × (placed_bytes held q pixel expected count ≡ replace_bytes held pixel expected count)
   unfolding located
   at_place q e = go (is_held held) (leb (held_count held) pixel) refl refl
     where
       go : (a b : Bool) → is_held held ≡ a → leb (held_count held) pixel ≡ b
           → Placed held q pixel × (placed_answer held q expected count ≡ replace_answer held pixel expected count) × (placed_bytes held q pixel expected count ≡ replace_bytes held pixel expected count)
-      go false b x y = let f : L.NotCanonical ≡ L.At q = rw x at e in let z : ◌≡◌ {A = ℕ} 0 1 = cc in absurd (omega arith)
-      go true true x y = let f : L.NoPixel ≡ L.At q = rw (x, y) at e in let z : ◌≡◌ {A = ℕ} 0 1 = cc in absurd (omega arith)
+      go false b x y = let f : (Err NotCanonical) ≡ Ok q = rw x at e in let z : ◌≡◌ {A = ℕ} 0 1 = cc in absurd (omega arith)
+      go true true x y = let f : (Err NoPixel) ≡ Ok q = rw (x, y) at e in let z : ◌≡◌ {A = ℕ} 0 1 = cc in absurd (omega arith)
       go true false x y =
-          let f : L.At (place_in held pixel) ≡ L.At q = rw (x, y) at e in
+          let f : Ok (place_in held pixel) ≡ Ok q = rw (x, y) at e in
           let p : place_in held pixel ≡ q = cc in
           let g : Found held pixel = found held pixel x y in
           rw (← p) (g.placed, answer-is held pixel g expected count x y, bytes-are held pixel g expected count x y)

@@ -1,39 +1,11 @@
 -- One pixel's entries counted.
 -- Assumes nothing.
-use mathlib.Core.Path.{◌≡◌, refl}
-use mathlib.Core.Bool.{Bool, true, false, ◌||◌}
-use mathlib.Core.List.{[], ◌∷◌, map}
-use Prim.Native.Nat.{ℕ, ◌+◌, ◌*◌, ◌≤◌, ◌<◌}
+use Prim.Native.Nat.{ℕ, ◌+◌, ◌*◌, ◌≤◌}
 use native.Mathlib.Omega.{arith}
 use native.Mathlib.Nat.{mul-le-mul_left}
-use lib.ListN.{length}
-use lib.Dec.{ltb}
-use Rattle.std.specs.Prelude.{if◌then◌else◌}
-use Rattle.lists.specs.Bytes.{padded_to}
-use Rattle.layout.specs.declared.Underflow.{Underflow}
-use Rattle.layout.specs.Layout.{table_bytes}
 use Rattle.splice.proofs.Fits.{fits-then, pad-bounds}
-use Rattle.layout.specs.Form.{underflow_bytes}
-use Rattle.pixel_counts.specs.Counts.{any_above255}
 use Rattle.replacement.specs.declared.Cut.{Cut}
 use Rattle.replacement.specs.Replaced.{cut_len, len_then, len_now, CutFits, LastFits, FirstFits}
-
-pub one-count : (t : Bool) (v : ℕ) → if◌then◌else◌ t 1 0 ≡ length (if◌then◌else◌ t (v ∷ []) [])
-one-count true v = refl
-one-count false v = refl
-
-pub capped-count : (t : Bool) (v : ℕ) (f : ℕ → ℕ) → if◌then◌else◌ t 1 0 ≡ length (map f (if◌then◌else◌ t (v ∷ []) []))
-capped-count true v f = refl
-capped-count false v f = refl
-
-or-none : (t : Bool) → t ≡ (t || false)
-or-none true = refl
-or-none false = refl
-
-pub large-one : (t : Bool) (v : ℕ) → if◌then◌else◌ t (ltb 255 v) false ≡ any_above255 (if◌then◌else◌ t (v ∷ []) [])
-unfolding any_above255
-large-one true v = or-none (ltb 255 v)
-large-one false v = refl
 
 pub product : (n w : ℕ) → w ≤ 4 → n * w ≤ n * 4
 product n w h = mul-le-mul_left n h

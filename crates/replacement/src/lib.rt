@@ -1,33 +1,19 @@
 // One pixel of a held frame replaced in place.
 #![tactic(auto)]
 
-ghost use Rattle.std.specs.Prelude.{◌≡◌, [], ◌∷◌, false, not, ◌+◌, ◌-◌, ◌*◌, ◌^◌, ◌≤◌, ◌<◌, length, leb, ltb, if◌then◌else◌};
+ghost use Rattle.std.specs.Prelude.{◌≡◌, [], ◌∷◌, ◌+◌, ◌-◌, ◌*◌, ◌^◌, ◌≤◌, ◌<◌, length};
 ghost use Rattle.lists.specs.Bytes.{padded_to};
 ghost use Rattle.layout.specs.Form.{width_bytes};
-ghost use Rattle.writer.specs.Storing.{lowered, stored_value, under_entries, two_entries, four_entries};
+ghost use Rattle.writer.specs.Storing.{lowered, at_most65535, stored_value, under_entries, two_entries, four_entries};
 ghost use Rattle.writer.specs.Writer.{underflow_too_large};
 ghost use Rattle.replacement.specs.Replaced.{len_then, len_now, cut_in, last_first, first_first, cut_all, CutFits, LastFits, FirstFits, AllFit, cut_of, entries_one, counts_after, under_cut, two_cut, four_cut, image_stop, entries_after, image_replaced, replaced_bytes, length_with, Placed};
 ghost use Rattle.replacement.specs.Replace.{meets, replace_answer, replace_bytes};
 ghost use Rattle.replacement.specs.Answered.{length_after, placed_answer, placed_bytes};
 
-use canonical::{Located, Place};
+use canonical::Place;
 use header_text::Counts;
 use layout::{EntryWidth, Form, Underflow, Width};
 use refusal::Refusal;
-
-// What the pixel must hold for its count to be replaced.
-#[derive(Clone, Copy)]
-pub enum Expected {
-    Any,
-    Exactly(u32),
-}
-
-// The count that the pixel held, or 19, 24, 23, 17 or 18.
-#[derive(Clone, Copy)]
-pub enum Replaced {
-    Done { old: u32 },
-    Refused(Refusal),
-}
 
 // A pixel's entry in a table, in bytes: the table's, those before the entry, its own, and the number that comes in its place.
 #[derive(Clone, Copy)]
@@ -39,32 +25,21 @@ struct Cut {
     width: usize,
 }
 
-fn less_base(v: u32, base: u32) -> u32
-    ensures { result ≡ if◌then◌else◌ (leb v base) 0 (v - base) }
-{
-    if v <= base { 0 } else { v - base }
-}
-
-fn at_most(limit: u32, x: u32) -> u32
-    ensures { result ≡ if◌then◌else◌ (leb limit x) limit x }
-{
-    if limit <= x { limit } else { x }
-}
-
-fn one_if(low: u32, high: u32) -> u32
-    ensures { result ≡ if◌then◌else◌ (leb low high) 1 0 }
-{
-    if low <= high { 1 } else { 0 }
-}
-
 // A pixel less the baseline, 0 where it underflows.
 fn lower(u: Underflow, base: u32, v: u32) -> u32
     ensures { result ≡ lowered u base v }
 {
     match u {
         Underflow::None => v,
-        Underflow::Subtracted(_) => less_base(v, base),
+        Underflow::Subtracted(_) => v.saturating_sub(base),
     }
+}
+
+// The entry that a two-byte table has for it.
+fn at_most_65535(x: u32) -> u32
+    ensures { result ≡ at_most65535 x }
+{
+    x.min(65535)
 }
 
 // The number that the image has for it.
@@ -72,76 +47,63 @@ fn image_number(w: Width, x: u32) -> u32
     ensures { result ≡ stored_value w x }
 {
     match w {
-        Width::One => at_most(255, x),
-        Width::Two => at_most(65535, x),
+        Width::One => x.min(255),
+        Width::Two => at_most_65535(x),
         Width::Four => x,
     }
 }
 
-// How many entries it has in each table.
+// How many entries it has in each table. Not by pixel_counts, whose baseline has 16 bits: a place's has 32.
+#[tactic(auto, unfolding(lists::specs::Only::only))]
 fn under_entries(u: Underflow, base: u32, v: u32) -> u32
     ensures { result ≡ length (under_entries u base (v ∷ [])) }
 {
     match u {
         Underflow::None => 0,
-        Underflow::Subtracted(_) => one_if(v, base),
+        Underflow::Subtracted(_) => u32::from(v <= base),
     }
 }
 
+#[tactic(auto, unfolding(lists::specs::Only::only))]
 fn two_entries(w: Width, x: u32) -> u32
     ensures { result ≡ length (two_entries w (x ∷ [])) }
 {
     match w {
-        Width::One => one_if(255, x),
-        Width::Two => 0,
-        Width::Four => 0,
+        Width::One => u32::from(255 <= x),
+        Width::Two | Width::Four => 0,
     }
 }
 
+#[tactic(auto, unfolding(lists::specs::Only::only))]
 fn four_entries(w: Width, x: u32) -> u32
     ensures { result ≡ length (four_entries w (x ∷ [])) }
 {
     match w {
-        Width::One => one_if(65535, x),
-        Width::Two => one_if(65535, x),
+        Width::One | Width::Two => u32::from(65535 <= x),
         Width::Four => 0,
     }
 }
 
+#[tactic(auto, unfolding(writer::specs::Storing::stored_for))]
 fn entries_of(form: Form, base: u32, v: u32) -> Counts
     ensures { result ≡ entries_one form base v }
 {
-    let u = form.underflow;
-    let w = form.width;
-    let x = lower(u, base, v);
-    let under = under_entries(u, base, v);
-    let two = two_entries(w, x);
-    let four = four_entries(w, x);
-    Counts { under, two, four }
-}
-
-// 17: the entry does not fit its width.
-fn byte_too_large(base: u32, v: u32) -> bool
-    ensures { result ≡ if◌then◌else◌ (leb v base) (ltb 255 v) false }
-{
-    if v <= base { 255 < v } else { false }
-}
-
-fn entry_too_large(e: EntryWidth, base: u32, v: u32) -> bool
-    ensures { result ≡ underflow_too_large (Underflow.Subtracted e) (under_entries (Underflow.Subtracted e) base (v ∷ [])) }
-{
-    match e {
-        EntryWidth::One => byte_too_large(base, v),
-        EntryWidth::Two => false,
+    let x = lower(form.underflow, base, v);
+    Counts {
+        under: under_entries(form.underflow, base, v),
+        two: two_entries(form.width, x),
+        four: four_entries(form.width, x),
     }
 }
 
+// 17: the entry does not fit its width.
+#[tactic(auto, unfolding(lists::specs::Only::only, pixel_counts::specs::Counts::any_above255))]
 fn too_large(u: Underflow, base: u32, v: u32) -> bool
     ensures { result ≡ underflow_too_large u (under_entries u base (v ∷ [])) }
 {
     match u {
-        Underflow::None => false,
-        Underflow::Subtracted(e) => entry_too_large(e, base, v),
+        Underflow::Subtracted(EntryWidth::One) => v <= base && 255 < v,
+        Underflow::None | Underflow::Subtracted(EntryWidth::Two) => false,
     }
 }
 
@@ -163,10 +125,7 @@ fn image_stop(place: Place) -> usize
     requires { place.pixels ≤ 16777216 }
     ensures { result ≡ image_stop place }
 {
-    let form = place.form;
-    let w = form.width;
-    let each = layout::width_bytes(w);
-    place.start as usize + place.pixels * each
+    place.start as usize + place.pixels * layout::width_bytes(place.form.width)
 }
 
 // The length of the frame with so many entries.
@@ -174,9 +133,7 @@ fn length_with(place: Place, c: Counts) -> usize
     requires { place.pixels ≤ 16777216 }
     ensures { result ≡ length_with place c }
 {
-    let form = place.form;
-    let u = form.underflow;
-    let under = layout::underflow_table_bytes(u, c.under);
+    let under = layout::underflow_table_bytes(place.form.underflow, c.under);
     let two = layout::table_bytes(Width::Two, c.two);
     let four = layout::table_bytes(Width::Four, c.four);
     image_stop(place) + under + two + four
@@ -225,7 +182,8 @@ fn edit(held: &mut [u8], k: Cut, s: usize, post: usize)
     splice::edit(held, s, k.n, k.before, k.old, post, k.value, k.width);
 }
 
-// The last table first: for a count that underflows.
+// The last table first: for a count that underflows. Here and below the three cuts stay arguments, since LastFits, FirstFits and cut_all
+// (specs/Replaced.antt) take them one by one.
 fn last_first(held: &mut [u8], s: usize, u: Cut, t: Cut, f: Cut)
     requires { LastFits (length held.old) s u t f }
     ensures { held.new ≡ last_first s u t f held.old }
@@ -257,12 +215,11 @@ fn edit_tables(held: &mut [u8], s: usize, u: Cut, t: Cut, f: Cut)
     requires { AllFit (length held.old) s u t f }
     ensures { held.new ≡ cut_all s u t f held.old }
 {
-    let width = u.width;
-    if 0 < width {
+    if 0 < u.width {
         last_first(held, s, u, t, f);
-        return;
+    } else {
+        first_first(held, s, u, t, f);
     }
-    first_first(held, s, u, t, f);
 }
 
 // The pixel's entries in the three tables.
@@ -287,14 +244,7 @@ fn put_tables(held: &mut [u8], place: Place, v: u32)
         new.under,
         v,
     );
-    let two = cut_of(
-        2,
-        all.two,
-        before.two,
-        old.two,
-        new.two,
-        at_most(65535, low),
-    );
+    let two = cut_of(2, all.two, before.two, old.two, new.two, at_most_65535(low));
     let four = cut_of(4, all.four, before.four, old.four, new.four, low);
     edit_tables(held, image_stop(place), under, two, four);
 }
@@ -339,46 +289,49 @@ fn put_pixel(held: &mut [u8], place: Place, pixel: u32, v: u32, after: Counts)
     header_text::rewrite(&mut held[..start], form, after);
 }
 
-fn differs(expected: Expected, old: u32) -> bool
-    ensures { result ≡ not (meets expected old) }
+// Whether the pixel holds what is expected of it.
+pub fn is_met(expected: Option<u32>, old: u32) -> bool
+    ensures { result ≡ meets expected old }
 {
-    match expected {
-        Expected::Any => false,
-        Expected::Exactly(n) => old != n,
-    }
+    expected.is_none_or(|n| old == n)
 }
 
 // 23, 17 and 18, and only then the first byte.
-fn replace_at(held: &mut [u8], place: Place, pixel: u32, expected: Expected, count: u32) -> Replaced
+fn replace_at(
+    held: &mut [u8],
+    place: Place,
+    pixel: u32,
+    expected: Option<u32>,
+    count: u32,
+) -> Result<u32, Refusal>
     requires { Placed held.old place pixel }
     ensures value { result ≡ placed_answer held.old place expected count }
     ensures held_after { held.new ≡ placed_bytes held.old place pixel expected count }
 {
-    let old = place.old;
-    let form = place.form;
-    let u = form.underflow;
-    if differs(expected, old) {
-        return Replaced::Refused(Refusal::PixelDiffers);
+    if !is_met(expected, place.old) {
+        return Err(Refusal::PixelDiffers);
     }
-    if too_large(u, place.baseline, count) {
-        return Replaced::Refused(Refusal::UnderflowTooLarge);
+    if too_large(place.form.underflow, place.baseline, count) {
+        return Err(Refusal::UnderflowTooLarge);
     }
     let after = entries_after(place, count);
     if held.len() < length_with(place, after) {
-        return Replaced::Refused(Refusal::OutputShort);
+        return Err(Refusal::OutputShort);
     }
     put_pixel(held, place, pixel, count, after);
-    Replaced::Done { old }
+    Ok(place.old)
 }
 
 // One count of a held frame replaced, if the pixel holds what is expected: 19, 24, 23, 17, 18, or the old count.
-pub fn replace(held: &mut [u8], pixel: u32, expected: Expected, count: u32) -> Replaced
+pub fn replace(
+    held: &mut [u8],
+    pixel: u32,
+    expected: Option<u32>,
+    count: u32,
+) -> Result<u32, Refusal>
     ensures value { result ≡ replace_answer held.old pixel expected count }
     ensures held_after { held.new ≡ replace_bytes held.old pixel expected count }
 {
-    match canonical::locate(held, pixel) {
-        Located::NotCanonical => Replaced::Refused(Refusal::HeldNotCanonical),
-        Located::NoPixel => Replaced::Refused(Refusal::NoSuchPixel),
-        Located::At(place) => replace_at(held, place, pixel, expected, count),
-    }
+    let place = canonical::locate(held, pixel)?;
+    replace_at(held, place, pixel, expected, count)
 }

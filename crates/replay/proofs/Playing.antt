@@ -75,32 +75,31 @@ module _ (h₀ l₀ : List ℕ) (lines : ℕ) (calls : List ℕ) where
   replies-long i = length-map (played h₀ l₀ lines calls i).replies _ ∙ length-replies (calls_from i calls) at_first ∙ length-calls i calls
 
   -- after i of n calls
-  pub record Playing (r₀ : List ℕ) (n : ℕ) (h l r : List ℕ) (used at i : ℕ) : Type 0 where
+  pub record Playing (r₀ : List ℕ) (n : ℕ) (h l r : List ℕ) (used i : ℕ) : Type 0 where
     pub upto : i ≤ n
     pub enough : n * 4 ≤ length calls
     pub room : n ≤ length r₀
-    pub at-is : at ≡ i * 4
     pub state : state_of h l used ≡ state_at i
     pub replies : r ≡ answer_numbers (played h₀ l₀ lines calls i).replies ++ drop i r₀
     pub same : length r ≡ length r₀
 
-  pub playing-start : (r₀ : List ℕ) (n : ℕ) → n * 4 ≤ length calls → n ≤ length r₀ → Playing r₀ n h₀ l₀ r₀ lines 0 0
+  pub playing-start : (r₀ : List ℕ) (n : ℕ) → n * 4 ≤ length calls → n ≤ length r₀ → Playing r₀ n h₀ l₀ r₀ lines 0
   unfolding played calls_from run
-  playing-start r₀ n e k = record { upto = omega arith; enough = e; room = k; at-is = refl; state = refl; replies = refl; same = refl }
+  playing-start r₀ n e k = record { upto = omega arith; enough = e; room = k; state = refl; replies = refl; same = refl }
 
-  pub playing-more : {r₀ : List ℕ} {n : ℕ} {h l r : List ℕ} {used at i : ℕ} (a b : List ℕ) (y : Reply) → Playing r₀ n h l r used at i → i < n
-      → y ≡ reply_of (step (call_at calls at) (state_of h l used)).reply
-      → a ≡ (step (call_at calls at) (state_of h l used)).state.held
-      → b ≡ (step (call_at calls at) (state_of h l used)).state.ledger
-      → (step (call_at calls at) (state_of h l used)).reply.lines ≡ (step (call_at calls at) (state_of h l used)).state.lines
-      → Playing r₀ n a b (set r i y.refusal) y.lines (at + 4) (i + 1)
-  playing-more {r₀} {n} {h} {l} {r} {used} {at} {i} a b y p lt ey ea eb el =
-      let c : Call = call_at calls at in
+  pub playing-more : {r₀ : List ℕ} {n : ℕ} {h l r : List ℕ} {used i : ℕ} (a b : List ℕ) (y : Reply) → Playing r₀ n h l r used i → i < n
+      → y ≡ reply_of (step (call_at calls (i * 4)) (state_of h l used)).reply
+      → a ≡ (step (call_at calls (i * 4)) (state_of h l used)).state.held
+      → b ≡ (step (call_at calls (i * 4)) (state_of h l used)).state.ledger
+      → (step (call_at calls (i * 4)) (state_of h l used)).reply.lines ≡ (step (call_at calls (i * 4)) (state_of h l used)).state.lines
+      → Playing r₀ n a b (set r i y.refusal) y.lines (i + 1)
+  playing-more {r₀} {n} {h} {l} {r} {used} {i} a b y p lt ey ea eb el =
+      let c : Call = call_at calls (i * 4) in
       let s : State = state_of h l used in
       let next : (step c s).state ≡ state_at (suc i) =
-      ap (λ (x : ℕ). (step (call_at calls x) s).state) p.at-is ∙ ap (λ (x : State). (step (call_at calls (i * 4)) x).state) p.state ∙ sym (state-more i) in
+      ap (λ (x : State). (step (call_at calls (i * 4)) x).state) p.state ∙ sym (state-more i) in
       let given : (step c s).reply ≡ (step (call_at calls (i * 4)) (state_at i)).reply =
-      ap (λ (x : ℕ). (step (call_at calls x) s).reply) p.at-is ∙ ap (λ (x : State). (step (call_at calls (i * 4)) x).reply) p.state in
+      ap (λ (x : State). (step (call_at calls (i * 4)) x).reply) p.state in
       let first : List ℕ = answer_numbers (played h₀ l₀ lines calls i).replies in
       let new : y.refusal ≡ answer_number (step (call_at calls (i * 4)) (state_at i)).reply.answer = ap (λ (x : Reply). x.refusal) ey ∙ ap (λ (x : M.Reply). answer_number x.answer) given in
       let put : set r i y.refusal ≡ answer_numbers (played h₀ l₀ lines calls (suc i)).replies ++ drop (suc i) r₀ =
@@ -114,7 +113,6 @@ module _ (h₀ l₀ : List ℕ) (lines : ℕ) (calls : List ℕ) where
         upto = omega arith;
         enough = p.enough;
         room = p.room;
-        at-is = omega (arith, p.at-is, suc-mul i 4);
         state = rw add-one (whole ∙ next);
         replies = rw add-one put;
         same = length-set r i y.refusal ∙ p.same;
@@ -143,7 +141,7 @@ pub few-enough : (n numbers places : ℕ) → n ≡ call_count numbers places �
 few-enough n numbers places e = rw e (count_fits numbers places)
 
 -- after the last call
-pub played-all : {h₀ l₀ : List ℕ} {lines : ℕ} {calls r₀ : List ℕ} {n m : ℕ} {h l r : List ℕ} {used at i : ℕ} → Playing h₀ l₀ lines calls r₀ n h l r used at i → i ≡ n → n ≡ m
+pub played-all : {h₀ l₀ : List ℕ} {lines : ℕ} {calls r₀ : List ℕ} {n m : ℕ} {h l r : List ℕ} {used i : ℕ} → Playing h₀ l₀ lines calls r₀ n h l r used i → i ≡ n → n ≡ m
     → (used ≡ (played h₀ l₀ lines calls m).state.lines) × (h ≡ (played h₀ l₀ lines calls m).state.held) × (l ≡ (played h₀ l₀ lines calls m).state.ledger)
     × (r ≡ answer_numbers (played h₀ l₀ lines calls m).replies ++ drop m r₀)
 played-all {h₀} {l₀} {lines} {calls} {r₀} p e q =

@@ -7,13 +7,12 @@ use Prim.Native.Nat.{ℕ, zero, suc, ◌+◌, ◌<◌}
 use lib.Dec.{eqb}
 use lib.ListN.{length, get_or, drop}
 use lib.Seq.{get_or-drop}
-use Rattle.std.specs.Prelude.{if◌then◌else◌}
+use Rattle.std.specs.Prelude.{if◌then◌else◌, Some, Ok}
 use Rattle.layout.specs.declared.Form.{Form}
-use Rattle.writer.specs.declared.AskedForm.TheVariants as F
-use Rattle.opening.specs.declared.OpenAnswer.TheVariants.{Opened}
-use Rattle.opening.specs.Open.{open_answer, open_held}
-use Rattle.model.specs.Model.{Call, correct, keep, withdraw, amend, compact, may_purge, run, model_step, empty_model}
-use Rattle.model.specs.Run.{step, opening_of, OpenedIn, in-asked, opened_state, Counted, AllCounted}
+use Rattle.layout.specs.Layout.{frame_read}
+use Rattle.opening.specs.Open.{opened, open_answer, open_held}
+use Rattle.model.specs.Model.{correct, keep, withdraw, amend, compact, may_purge, run, model_step, empty_model}
+use Rattle.model.specs.Run.{opening_of, OpenedIn, in-asked, Counted, AllCounted}
 use Rattle.model.specs.Demand3.{Agreement}
 use Rattle.model.proofs.Demand3.{demand3-opened}
 use Rattle.replay.specs.Replay.{date_of, call_of, calls_from, played}
@@ -43,7 +42,7 @@ pub replay-agrees-opened : (bytes pixels held ledger calls : List ℕ) (form : F
     → ((i : ℕ) → get_or calls i 0 < 4294967296)
     → OpenedIn bytes pixels held form
     → (let o = opening_of bytes pixels form held ledger in
-    Agreement o ledger (calls_from n calls) (played (open_held bytes pixels (F.Listed form) held) ledger 0 calls n) (run (model_step o) (calls_from n calls) empty_model))
+    Agreement o ledger (calls_from n calls) (played (open_held bytes pixels (Some form) held) ledger 0 calls n) (run (model_step o) (calls_from n calls) empty_model))
 unfolding played
 replay-agrees-opened bytes pixels held ledger calls form n byte word opened =
     demand3-opened bytes pixels held ledger form byte opened (calls_from n calls) (all-counted n calls word)
@@ -52,8 +51,8 @@ replay-agrees-opened bytes pixels held ledger calls form n byte word opened =
 pub replay-agrees : (bytes pixels held ledger calls : List ℕ) (form : Form) (rows columns end length-held n : ℕ)
     → ((i : ℕ) → get_or bytes i 0 < 256)
     → ((i : ℕ) → get_or calls i 0 < 4294967296)
-    → open_answer bytes pixels (F.Listed form) (length held) ≡ Opened rows columns end length-held
+    → open_answer bytes pixels (Some form) (length held) ≡ Ok (opened (frame_read rows columns end) (Ok length-held))
     → (let o = opening_of bytes pixels form held ledger in
-    Agreement o ledger (calls_from n calls) (played (open_held bytes pixels (F.Listed form) held) ledger 0 calls n) (run (model_step o) (calls_from n calls) empty_model))
+    Agreement o ledger (calls_from n calls) (played (open_held bytes pixels (Some form) held) ledger 0 calls n) (run (model_step o) (calls_from n calls) empty_model))
 replay-agrees bytes pixels held ledger calls form rows columns end length-held n byte word opened =
     replay-agrees-opened bytes pixels held ledger calls form n byte word (in-asked rows columns end length-held opened)

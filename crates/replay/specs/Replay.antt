@@ -1,12 +1,11 @@
 -- A list of calls in numbers, made on real bytes: the run that the theorem of demand 3 is about.
-use Rattle.std.specs.Prelude.{ℕ, zero, suc, ◌/◌, List, [], ◌∷◌, map, drop, get_or, eqb, ltb, if◌then◌else◌}
+use Rattle.refusal.specs.declared.Refusal.{Refusal}
+use Rattle.std.specs.Prelude.{ℕ, zero, suc, ◌/◌, List, [], ◌∷◌, map, drop, get_or, eqb, ltb, if◌then◌else◌, Result}
 use Rattle.refusal.specs.Codes.{refusal_number}
 use Rattle.calendar.specs.declared.Date.{Date}
-use Rattle.ledger.specs.declared.LedgerAnswer.{LedgerAnswer}
-use Rattle.ledger.specs.declared.PurgeAnswer.{PurgeAnswer}
 use Rattle.model.specs.Model as M
 use Rattle.model.specs.Model.{Call, correct, keep, withdraw, amend, compact, may_purge, Answer, accepted, refused, Ran, run}
-use Rattle.model.specs.Run.{State, state_of, step, answered, lines_after, purged}
+use Rattle.model.specs.Run.{State, state_of, step, answered, lines_after}
 use Rattle.replay.specs.declared.Reply.{Reply}
 
 -- 0, or the refusal's number
@@ -17,11 +16,8 @@ answer_number (refused r) = refusal_number r
 abbrev pub reply_of : M.Reply → Reply
 reply_of r = record { refusal = answer_number r.answer; lines = r.lines }
 
-abbrev pub ledger_reply : ℕ → LedgerAnswer → Reply
+abbrev pub ledger_reply : ℕ → Result ℕ Refusal → Reply
 ledger_reply lines a = reply_of (record { answer = answered a; lines = lines_after lines a })
-
-abbrev pub purge_reply : ℕ → PurgeAnswer → Reply
-purge_reply lines a = reply_of (record { answer = purged a; lines = lines })
 
 -- a call in four numbers
 abbrev pub date_of : ℕ → ℕ → ℕ → Date

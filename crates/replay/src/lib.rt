@@ -3,10 +3,10 @@
 
 ghost use Rattle.std.specs.Prelude.{◌≡◌, map, ◌++◌, length, drop};
 ghost use Rattle.model.specs.Run.{state_of, step};
-ghost use Rattle.replay.specs.Replay.{ledger_reply, purge_reply, reply_of, call_of, call_count, played, answer_numbers};
+ghost use Rattle.replay.specs.Replay.{ledger_reply, reply_of, call_of, call_count, played, answer_numbers};
 
 use calendar::Date;
-use ledger::{LedgerAnswer, PurgeAnswer};
+use refusal::Refusal;
 
 // What a call gave: 0 or the refusal's number, and the number of lines after it.
 #[derive(Clone, Copy)]
@@ -15,27 +15,15 @@ struct Reply {
     lines: u64,
 }
 
-fn ledger_reply(lines: u64, answer: LedgerAnswer) -> Reply
+fn ledger_reply(lines: u64, answer: Result<u64, Refusal>) -> Reply
     ensures { result ≡ ledger_reply lines answer }
 {
     match answer {
-        LedgerAnswer::Accepted { lines: next } => Reply {
+        Ok(next) => Reply {
             refusal: 0,
             lines: next,
         },
-        LedgerAnswer::Refused(r) => Reply {
-            refusal: refusal::number_of(r),
-            lines,
-        },
-    }
-}
-
-fn purge_reply(lines: u64, answer: PurgeAnswer) -> Reply
-    ensures { result ≡ purge_reply lines answer }
-{
-    match answer {
-        PurgeAnswer::Allowed => Reply { refusal: 0, lines },
-        PurgeAnswer::Refused(r) => Reply {
+        Err(r) => Reply {
             refusal: refusal::number_of(r),
             lines,
         },
@@ -43,7 +31,8 @@ fn purge_reply(lines: u64, answer: PurgeAnswer) -> Reply
 }
 
 // One call: 0 a correction of pixel a to the count b, 1 a keep entry of the date a, b, c, 2 a withdrawal, 3 an amending to the count b, 4 a compaction,
-// any other kind a purge question.
+// any other kind a purge question. The numbers are the caller's (specs/Replay.antt, call_of), so the match is on them.
+#[tactic(auto, unfolding(crate::specs::Replay::call_of, model::specs::Run::step))]
 fn make_call(
     held: &mut [u8],
     ledger: &mut [u8],
@@ -68,16 +57,19 @@ fn make_call(
         2 => ledger_reply(lines, archive::withdraw(held, ledger, lines)),
         3 => ledger_reply(lines, archive::amend(held, ledger, lines, b)),
         4 => ledger_reply(lines, compaction::compact(ledger, lines)),
-        _ => purge_reply(lines, ledger::may_purge(ledger, lines, date)),
+        _ => ledger_reply(
+            lines,
+            ledger::may_purge(ledger, lines, date).map(|()| lines),
+        ),
     }
 }
 
 // As many calls as there are four numbers for and replies have places for.
+#[tactic(auto, unfolding(crate::specs::Replay::call_count))]
 fn call_count(calls: &[u32], replies: &[u32]) -> usize
     ensures { result ≡ call_count (length calls.now) (length replies.now) }
 {
-    let n = calls.len() / 4;
-    if replies.len() < n { replies.len() } else { n }
+    (calls.len() / 4).min(replies.len())
 }
 
 // Makes the calls in their order, four numbers each. Each reply is 0 or the refusal's number; the answer is the number of lines afterwards.
@@ -95,9 +87,8 @@ pub fn replay(
 {
     let n = call_count(calls, replies);
     let mut used = lines;
-    let mut at = 0;
-    let mut i = 0;
-    while i < n {
+    for i in 0..n {
+        let at = i * 4;
         let r = make_call(
             held,
             ledger,
@@ -109,8 +100,6 @@ pub fn replay(
         );
         replies[i] = r.refusal;
         used = r.lines;
-        at += 4;
-        i += 1;
     }
     used
 }

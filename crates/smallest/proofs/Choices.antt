@@ -1,5 +1,7 @@
 -- Laws of the choice, over any list of forms and whatever is made in each of them.
 -- Assumes nothing.
+use Rattle.form_choice.specs.Choosing.{form_chosen}
+use Rattle.form_choice.specs.declared.Chosen.{Chosen}
 use mathlib.Core.Path.{◌≡◌, refl, sym, ap, ◌∙◌}
 use mathlib.Core.Bool.{Bool, true, false}
 use mathlib.Core.List.{List, [], ◌∷◌, ◌++◌}
@@ -8,13 +10,11 @@ use native.Mathlib.Omega.{arith}
 use lib.ListN.{length}
 use lib.Dec.{leb}
 use borrow.Author.Tests.{leb-true, leb-false}
-use Rattle.std.specs.Prelude.{if◌then◌else◌}
+use Rattle.std.specs.Prelude.{if◌then◌else◌, Err, Ok, Result}
 use Rattle.refusal.specs.declared.Refusal.{Refusal}
 use Rattle.layout.specs.declared.Form.{Form}
 use Rattle.writer.specs.Writer as M
 use Rattle.writer.specs.Writer.{Made}
-use Rattle.form_choice.specs.declared.Choice.{Choice}
-use Rattle.form_choice.specs.declared.Choice.TheVariants.{Chosen, Refused}
 use Rattle.form_choice.specs.Choosing.{shorter, choice_by}
 use Rattle.smallest.specs.Smallest.{considered, choice_of}
 
@@ -46,9 +46,9 @@ abbrev pub NoFrame : (Form → Made) → Form → Type 0
 NoFrame make g = (b : List ℕ) → make g ≡ M.frame b → ⊥
 
 -- what is known of an answer
-pub data Answered (make : Form → Made) (fs : List Form) : Choice → Type 0 where
-  chosen : {f : Form} {n : ℕ} → Smallest make fs f n → Answered make fs (Chosen f n)
-  refused : {r : Refusal} → Every (NoFrame make) fs → Answered make fs (Refused r)
+pub data Answered (make : Form → Made) (fs : List Form) : Result Chosen Refusal → Type 0 where
+  chosen : {f : Form} {n : ℕ} → Smallest make fs f n → Answered make fs (Ok (form_chosen f n))
+  refused : {r : Refusal} → Every (NoFrame make) fs → Answered make fs (Err r)
 
 pub every_map : {P Q : Form → Type 0} {fs : List Form} → ((g : Form) → P g → Q g) → Every P fs → Every Q fs
 every_map k none = none
@@ -87,13 +87,13 @@ passed {make} {g} {fs} l s = record {
   no-shorter = s.no-shorter;
 }
 
-step : {make : Form → Made} {g : Form} {fs : List Form} {c : Choice} (m : Made) → make g ≡ m → Answered make fs c → Answered make (g ∷ fs) (shorter (considered g m) c)
+step : {make : Form → Made} {g : Form} {fs : List Form} {c : (Result Chosen Refusal)} (m : Made) → make g ≡ m → Answered make fs c → Answered make (g ∷ fs) (shorter (considered g m) c)
 step {make} {g} {fs} (M.refused r) e (chosen {f} {n} s) = chosen (passed (λ b q. never-frame (sym e ∙ q)) s)
 step {make} {g} {fs} (M.refused r) e (refused k) = refused (one (λ b q. never-frame (sym e ∙ q)) k)
 step {make} {g} {fs} (M.frame a) e (refused k) = chosen (ahead a e (every_map (λ h p b q. absurd (p b q)) k))
 step {make} {g} {fs} (M.frame a) e (chosen {f} {n} s) = go (leb (length a) n) refl
   where
-    go : (t : Bool) → leb (length a) n ≡ t → Answered make (g ∷ fs) (if◌then◌else◌ t (Chosen g (length a)) (Chosen f n))
+    go : (t : Bool) → leb (length a) n ≡ t → Answered make (g ∷ fs) (if◌then◌else◌ t (Ok (form_chosen g (length a))) (Ok (form_chosen f n)))
     go true t = let l = leb-true (length a) n t in chosen (ahead a e (every_map (λ h p b q. let k = p b q in omega arith) (all-no-shorter s)))
     go false t = let l = leb-false (length a) n t in chosen (passed (λ b q. let k = ap length (same-frame (sym e ∙ q)) in omega arith) s)
 
@@ -103,7 +103,7 @@ answered make [] = refused none
 answered make (f ∷ fs) = step (make f) refl (answered make fs)
 
 -- the choice follows from what is considered of each form
-pub choice-same : (c d : Form → Choice) → ((f : Form) → c f ≡ d f) → (fs : List Form) → choice_by c fs ≡ choice_by d fs
+pub choice-same : (c d : Form → Result Chosen Refusal) → ((f : Form) → c f ≡ d f) → (fs : List Form) → choice_by c fs ≡ choice_by d fs
 unfolding choice_by
 choice-same c d h [] = refl
 choice-same c d h (f ∷ fs) = rw (h f, choice-same c d h fs)

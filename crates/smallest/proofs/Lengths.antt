@@ -1,5 +1,7 @@
 -- Each form by the survey: its counts, its length, and its refusal.
 -- Assumes nothing.
+use Rattle.std.specs.Prelude.{Err, Ok}
+use Rattle.form_choice.specs.Choosing.{form_chosen}
 use mathlib.Core.Path.{◌≡◌, refl, sym}
 use mathlib.Core.Bool.{Bool, true, false}
 use mathlib.Core.List.{List}
@@ -25,7 +27,6 @@ use Rattle.writer.specs.Writer.{base_for, made_of, made_with}
 use Rattle.writer.proofs.Whole.{counts-are, frame-length, length-image}
 use Rattle.survey.specs.declared.Survey.{Survey}
 use Rattle.survey.specs.Survey.{survey_of}
-use Rattle.form_choice.specs.declared.Choice.TheVariants.{Chosen, Refused}
 use Rattle.form_choice.specs.Choosing.{forms, choice_by}
 use Rattle.form_choice.specs.Lengths.{length_by, measured, candidate_of}
 use Rattle.smallest.specs.Smallest.{considered, choice_of}
@@ -44,7 +45,7 @@ stored-subtracted w k base vs = counts-are (form_of w (U.Subtracted k)) base vs 
 
 -- the length by these counts is the frame's
 measured-is : (header : List ℕ) (form : Form) (b : ℕ) (vs : List ℕ) (c : Counts) → 3200 ≤ length header → counts_for form c ≡ stored_counts (stored_for form b vs)
-    → Chosen form (length (frame_bytes header form (stored_for form b vs))) ≡ measured (length header) (length vs) form c
+    → Ok (form_chosen form (length (frame_bytes header form (stored_for form b vs)))) ≡ measured (length header) (length vs) form c
 unfolding measured length_by frame_length
 measured-is header form b vs c h cs =
     let n : length (stored_for form b vs).image ≡ length vs = length-image form b vs in
@@ -108,6 +109,6 @@ module _ (header vs : List ℕ) (h : Underflows) (long : 3200 ≤ length header)
   chosen-missing s n e = sym (choice-same _ _ (λ form. missing-law s n e form.width form.underflow) forms)
 
 -- where every form is refused alike, that is the answer
-pub all-refused : (r : Refusal) → choice_of (λ form. M.refused r) forms ≡ Refused r
+pub all-refused : (r : Refusal) → choice_of (λ form. M.refused r) forms ≡ Err r
 unfolding choice_by forms
 all-refused r = refl

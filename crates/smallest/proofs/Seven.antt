@@ -1,5 +1,6 @@
 -- Width 4 with a baseline is never the smallest form.
 -- Assumes nothing.
+use Rattle.refusal.specs.declared.Refusal.{Refusal}
 use mathlib.Core.Path.{◌≡◌, refl, sym, ap, ◌∙◌}
 use mathlib.Core.Bool.{Bool, true, false}
 use mathlib.Core.List.{List}
@@ -8,7 +9,7 @@ use native.Mathlib.Omega.{arith}
 use lib.ListN.{length, take}
 use lib.Dec.{ltb}
 use borrow.Author.Tests.{ltb-false}
-use Rattle.std.specs.Prelude.{if◌then◌else◌}
+use Rattle.std.specs.Prelude.{if◌then◌else◌, Err, Ok, Result, Some}
 use Rattle.refusal.specs.declared.Refusal.TheVariants as R
 use Rattle.layout.specs.declared.Width.TheVariants as W
 use Rattle.layout.specs.declared.EntryWidth.{EntryWidth}
@@ -21,16 +22,12 @@ use Rattle.layout.specs.declared.Header.{Header}
 use Rattle.layout.specs.Form.{form_of, entry_bytes}
 use Rattle.layout.specs.Layout.{pixel_count, table_bytes}
 use Rattle.layout.proofs.Laws.{table_none}
-use Rattle.header.specs.declared.HeaderAnswer.{HeaderAnswer}
-use Rattle.header.specs.declared.HeaderAnswer.TheVariants as A
 use Rattle.header.specs.Header.{header_of}
-use Rattle.writer.specs.declared.AskedForm.TheVariants as F
 use Rattle.writer.specs.Storing.{stored_for}
 use Rattle.writer.specs.Frame.{frame_bytes, frame_length}
 use Rattle.writer.specs.Writer as M
 use Rattle.writer.specs.Writer.{Made, writer_frame, underflow_too_large, base_for, made_by, made_as, made_with}
 use Rattle.writer.proofs.Whole.{frame-length, length-image, sized_of}
-use Rattle.form_choice.specs.declared.Choice.TheVariants.{Chosen}
 use Rattle.form_choice.specs.Choosing.{rank}
 use Rattle.smallest.specs.Smallest.{made_in, smallest_form}
 use Rattle.smallest.specs.Theorems.{SevenForms}
@@ -66,20 +63,20 @@ module _ (given pixels : List ℕ) (e : EntryWidth) (f : List ℕ) where
       go true z = never-frame z
       go false z = record { frame = frame_bytes header plain (stored_for plain 0 vs); made = refl; short = rw (← same-frame z) (plain-short header vs e b h) }
 
-  by-tables : (header vs : List ℕ) → 3200 ≤ length header → (t : Tables) → made_as header t (F.Listed (lowered e)) vs ≡ M.frame f → AtMost (made_as header t (F.Listed plain) vs) (length f)
+  by-tables : (header vs : List ℕ) → 3200 ≤ length header → (t : Tables) → made_as header t (Some (lowered e)) vs ≡ M.frame f → AtMost (made_as header t (Some plain) vs) (length f)
   by-tables header vs h (T.Format86 n) q = never-frame q
   by-tables header vs h (T.Format100 t) q = by-base header vs h (base_for header t.underflows (U.Subtracted e)) q
 
-  by_count : (h : Header) → header_of given ≡ A.Accepted h → (t : Bool) → ltb (length pixels) (pixel_count h.image) ≡ t
-      → if◌then◌else◌ t (M.refused R.PixelArrayShort) (made_as (take h.image.start given) h.tables (F.Listed (lowered e)) (take (pixel_count h.image) pixels)) ≡ M.frame f
-      → AtMost (if◌then◌else◌ t (M.refused R.PixelArrayShort) (made_as (take h.image.start given) h.tables (F.Listed plain) (take (pixel_count h.image) pixels))) (length f)
+  by_count : (h : Header) → header_of given ≡ Ok h → (t : Bool) → ltb (length pixels) (pixel_count h.image) ≡ t
+      → if◌then◌else◌ t (M.refused R.PixelArrayShort) (made_as (take h.image.start given) h.tables (Some (lowered e)) (take (pixel_count h.image) pixels)) ≡ M.frame f
+      → AtMost (if◌then◌else◌ t (M.refused R.PixelArrayShort) (made_as (take h.image.start given) h.tables (Some plain) (take (pixel_count h.image) pixels))) (length f)
   by_count h a true q z = never-frame z
   by_count h a false q z =
       by-tables (take h.image.start given) (take (pixel_count h.image) pixels) (sized_of given pixels h _ _ a refl refl (ltb-false _ _ q)).long h.tables z
 
-  by_answer : (x : HeaderAnswer) → header_of given ≡ x → made_by given (F.Listed (lowered e)) pixels x ≡ M.frame f → AtMost (made_by given (F.Listed plain) pixels x) (length f)
-  by_answer (A.Accepted h) a z = by_count h a (ltb (length pixels) (pixel_count h.image)) refl z
-  by_answer (A.Refused r) a z = never-frame z
+  by_answer : (x : Result Header Refusal) → header_of given ≡ x → made_by given (Some (lowered e)) pixels x ≡ M.frame f → AtMost (made_by given (Some plain) pixels x) (length f)
+  by_answer (Ok h) a z = by_count h a (ltb (length pixels) (pixel_count h.image)) refl z
+  by_answer (Err r) a z = never-frame z
 
   plain-made : made_in given pixels (lowered e) ≡ M.frame f → AtMost (made_in given pixels plain) (length f)
   unfolding writer_frame

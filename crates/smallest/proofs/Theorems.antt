@@ -1,5 +1,7 @@
 -- The theorems of the smallest form (specs/Theorems.antt).
 -- Assumes nothing.
+use Rattle.form_choice.specs.Choosing.{form_chosen}
+use Rattle.form_choice.specs.declared.Chosen.{Chosen}
 use mathlib.Core.Path.{◌≡◌, refl, sym, ap, ◌∙◌}
 use mathlib.Core.Bool.{Bool, true, false}
 use mathlib.Core.List.{List, [], ◌∷◌, ◌++◌}
@@ -8,7 +10,7 @@ use native.Mathlib.Omega.{arith}
 use lib.ListN.{length, take}
 use lib.Dec.{leb, ltb}
 use borrow.Author.Tests.{le-ltb, ltb-true}
-use Rattle.std.specs.Prelude.{if◌then◌else◌}
+use Rattle.std.specs.Prelude.{if◌then◌else◌, Err, Ok, Result, Some}
 use Rattle.refusal.specs.declared.Refusal.{Refusal}
 use Rattle.refusal.specs.declared.Refusal.TheVariants as R
 use Rattle.layout.specs.declared.Width.{Width}
@@ -23,15 +25,9 @@ use Rattle.layout.specs.declared.Header.{Header}
 use Rattle.layout.specs.Form.{form_of}
 use Rattle.layout.specs.Layout.{pixel_count}
 use Rattle.refusal.specs.Codes.{refusal_number}
-use Rattle.header.specs.declared.HeaderAnswer.{HeaderAnswer}
-use Rattle.header.specs.declared.HeaderAnswer.TheVariants as A
 use Rattle.header.specs.Header.{header_of}
 use Rattle.writer.specs.Writer as M
 use Rattle.writer.specs.Writer.{Made, writer_frame, write_answer, answer_of, made_by, made_as}
-use Rattle.writer.specs.declared.AskedForm.TheVariants as F
-use Rattle.writer.specs.declared.WriteAnswer.TheVariants as WA
-use Rattle.form_choice.specs.declared.Choice.{Choice}
-use Rattle.form_choice.specs.declared.Choice.TheVariants.{Chosen, Refused}
 use Rattle.form_choice.specs.Choosing.{forms, rank, shorter, choice_by}
 use Rattle.smallest.specs.Smallest.{considered, made_in, smallest_form, form_in, foretold}
 use Rattle.smallest.specs.Theorems as S
@@ -90,11 +86,11 @@ pub smallest-answer : (given pixels : List ℕ) → Answered (made_in given pixe
 unfolding smallest_form
 smallest-answer given pixels = answered (made_in given pixels) forms
 
-chosen_is : {make : Form → Made} {fs : List Form} {c : Choice} {g : Form} {m : ℕ} → Answered make fs c → c ≡ Chosen g m → Smallest make fs g m
-chosen_is {make} {fs} {c} {g} {m} (chosen {f} {n} s) e = let p : f ≡ g = cc in let q : n ≡ m = cc in rw (← p, ← q) s
+chosen_is : {make : Form → Made} {fs : List Form} {c : (Result Chosen Refusal)} {g : Form} {m : ℕ} → Answered make fs c → c ≡ Ok (form_chosen g m) → Smallest make fs g m
+chosen_is {make} {fs} {c} {g} {m} (chosen {f} {n} s) e = let k : form_chosen f n ≡ form_chosen g m = cc in let p : f ≡ g = ap (λ (x : Chosen). x.form) k in let q : n ≡ m = ap (λ (x : Chosen). x.length) k in rw (← p, ← q) s
 chosen_is (refused k) e = absurd (let z : ◌≡◌ {A = ℕ} 0 1 = cc in omega arith)
 
-refused-is : {make : Form → Made} {fs : List Form} {c : Choice} {r : Refusal} → Answered make fs c → c ≡ Refused r → Every (NoFrame make) fs
+refused-is : {make : Form → Made} {fs : List Form} {c : (Result Chosen Refusal)} {r : Refusal} → Answered make fs c → c ≡ Err r → Every (NoFrame make) fs
 refused-is (chosen s) e = absurd (let z : ◌≡◌ {A = ℕ} 0 1 = cc in omega arith)
 refused-is (refused k) e = k
 
@@ -110,17 +106,17 @@ smallest-law given pixels f n e =
     }
 
 -- a refusal is that of the first form
-first-refused : (c d : Choice) (r : Refusal) → shorter c d ≡ Refused r → c ≡ Refused r
-first-refused (Refused s) (Refused t) r e = e
-first-refused (Refused s) (Chosen g m) r e = absurd (let z : ◌≡◌ {A = ℕ} 0 1 = cc in omega arith)
-first-refused (Chosen f n) (Refused t) r e = absurd (let z : ◌≡◌ {A = ℕ} 0 1 = cc in omega arith)
-first-refused (Chosen f n) (Chosen g m) r e = go (leb n m) e
+first-refused : (c d : Result Chosen Refusal) (r : Refusal) → shorter c d ≡ Err r → c ≡ Err r
+first-refused (Err s) (Err t) r e = e
+first-refused (Err s) (Ok ch) r e = absurd (let z : ◌≡◌ {A = ℕ} 0 1 = cc in omega arith)
+first-refused (Ok ch) (Err t) r e = absurd (let z : ◌≡◌ {A = ℕ} 0 1 = cc in omega arith)
+first-refused (Ok ch) (Ok ch1) r e = go (leb ch.length ch1.length) e
   where
-    go : (t : Bool) → if◌then◌else◌ t (Chosen f n) (Chosen g m) ≡ Refused r → Chosen f n ≡ Refused r
+    go : (t : Bool) → if◌then◌else◌ t (Ok (form_chosen ch.form ch.length)) (Ok (form_chosen ch1.form ch1.length)) ≡ Err r → Ok (form_chosen ch.form ch.length) ≡ Err r
     go true q = q
     go false q = absurd (let z : ◌≡◌ {A = ℕ} 0 1 = cc in omega arith)
 
-refused-made : (f : Form) (m : Made) (r : Refusal) → considered f m ≡ Refused r → m ≡ M.refused r
+refused-made : (f : Form) (m : Made) (r : Refusal) → considered f m ≡ Err r → m ≡ M.refused r
 refused-made f (M.frame b) r e = absurd (let z : ◌≡◌ {A = ℕ} 0 1 = cc in omega arith)
 refused-made f (M.refused s) r e = let q : s ≡ r = cc in rw q
 
@@ -130,25 +126,25 @@ same-refused e = cc
 abbrev plainest : Form
 plainest = form_of W.One U.None
 
-reason-of : (given pixels : List ℕ) (r : Refusal) → writer_frame given (F.Listed plainest) pixels ≡ M.refused r → Reason given pixels r
+reason-of : (given pixels : List ℕ) (r : Refusal) → writer_frame given (Some plainest) pixels ≡ M.refused r → Reason given pixels r
 unfolding writer_frame
 reason-of given pixels r e = by_answer (header_of given) refl e
   where
-    by-tables : (h : Header) (t : Tables) → header_of given ≡ A.Accepted h → h.tables ≡ t
-        → made_as (take h.image.start given) t (F.Listed plainest) (take (pixel_count h.image) pixels) ≡ M.refused r → Reason given pixels r
+    by-tables : (h : Header) (t : Tables) → header_of given ≡ Ok h → h.tables ≡ t
+        → made_as (take h.image.start given) t (Some plainest) (take (pixel_count h.image) pixels) ≡ M.refused r → Reason given pixels r
     by-tables h (T.Format86 n) a q d = rw (← same-refused d) (format-86 h n a q)
     by-tables h (T.Format100 t) a q d = absurd (let z : ◌≡◌ {A = ℕ} 0 1 = cc in omega arith)
 
-    by_count : (h : Header) (t : Bool) → header_of given ≡ A.Accepted h → ltb (length pixels) (pixel_count h.image) ≡ t
-        → if◌then◌else◌ t (M.refused R.PixelArrayShort) (made_as (take h.image.start given) h.tables (F.Listed plainest) (take (pixel_count h.image) pixels)) ≡ M.refused r → Reason given pixels r
+    by_count : (h : Header) (t : Bool) → header_of given ≡ Ok h → ltb (length pixels) (pixel_count h.image) ≡ t
+        → if◌then◌else◌ t (M.refused R.PixelArrayShort) (made_as (take h.image.start given) h.tables (Some plainest) (take (pixel_count h.image) pixels)) ≡ M.refused r → Reason given pixels r
     by_count h true a q d = rw (← same-refused d) (too_few h a (ltb-true _ _ q))
     by_count h false a q d = by-tables h h.tables a refl d
 
-    by_answer : (x : HeaderAnswer) → header_of given ≡ x → made_by given (F.Listed plainest) pixels x ≡ M.refused r → Reason given pixels r
-    by_answer (A.Accepted h) a d = by_count h (ltb (length pixels) (pixel_count h.image)) a refl d
-    by_answer (A.Refused s) a d = by-header (a ∙ ap A.Refused (same-refused d))
+    by_answer : (x : Result Header Refusal) → header_of given ≡ x → made_by given (Some plainest) pixels x ≡ M.refused r → Reason given pixels r
+    by_answer (Ok h) a d = by_count h (ltb (length pixels) (pixel_count h.image)) a refl d
+    by_answer (Err s) a d = by-header (a ∙ ap Err (same-refused d))
 
-refused-first : (given pixels : List ℕ) (r : Refusal) → smallest_form given pixels ≡ Refused r → writer_frame given (F.Listed plainest) pixels ≡ M.refused r
+refused-first : (given pixels : List ℕ) (r : Refusal) → smallest_form given pixels ≡ Err r → writer_frame given (Some plainest) pixels ≡ M.refused r
 unfolding smallest_form choice_by forms
 refused-first given pixels r e = refused-made plainest _ r (first-refused _ _ r e)
 
@@ -166,13 +162,16 @@ refused-exactly given pixels r e =
       number = due given pixels r why;
     }
 
+abbrev chosen-with : Form → ℕ → Result Chosen Refusal
+chosen-with f n = Ok (form_chosen f n)
+
 -- The form chosen, or the first where there is none, is the writer's business from there on: what it makes in that form is the choice.
-pub form-law : (given pixels : List ℕ) → considered (form_in (smallest_form given pixels)) (writer_frame given (F.Listed (form_in (smallest_form given pixels))) pixels) ≡ smallest_form given pixels
+pub form-law : (given pixels : List ℕ) → considered (form_in (smallest_form given pixels)) (writer_frame given (Some (form_in (smallest_form given pixels))) pixels) ≡ smallest_form given pixels
 form-law given pixels = go (smallest_form given pixels) refl
   where
-    go : (c : Choice) → smallest_form given pixels ≡ c → considered (form_in c) (writer_frame given (F.Listed (form_in c)) pixels) ≡ c
-    go (Chosen f n) e = let s = chosen_is (smallest-answer given pixels) e in ap (considered f) s.made ∙ ap (Chosen f) (sym s.length-is)
-    go (Refused r) e = ap (considered plainest) (refused-first given pixels r e)
+    go : (c : Result Chosen Refusal) → smallest_form given pixels ≡ c → considered (form_in c) (writer_frame given (Some (form_in c)) pixels) ≡ c
+    go (Ok ch) e = let s = chosen_is (smallest-answer given pixels) e in ap (considered ch.form) s.made ∙ ap (chosen-with ch.form) (sym s.length-is)
+    go (Err r) e = ap (considered plainest) (refused-first given pixels r e)
 
 answer-of : (f : Form) (room : ℕ) (m : Made) → answer_of room m ≡ foretold room (considered f m)
 answer-of f room (M.frame b) = refl
@@ -181,4 +180,4 @@ answer-of f room (M.refused r) = refl
 -- the length foretold is the length written, for every header, pixels and room
 pub foretold-law : Foretold
 unfolding write_answer
-foretold-law given pixels room = answer-of (form_in (smallest_form given pixels)) room (writer_frame given (F.Listed (form_in (smallest_form given pixels))) pixels) ∙ ap (foretold room) (form-law given pixels)
+foretold-law given pixels room = answer-of (form_in (smallest_form given pixels)) room (writer_frame given (Some (form_in (smallest_form given pixels))) pixels) ∙ ap (foretold room) (form-law given pixels)

@@ -1,5 +1,6 @@
 -- Document 02, A14: what is proved of the choice, for every header and pixel array.
-use Rattle.std.specs.Prelude.{ℕ, ◌≤◌, ◌<◌, ◌≡◌, List, length}
+use Rattle.form_choice.specs.Choosing.{form_chosen}
+use Rattle.std.specs.Prelude.{ℕ, ◌≤◌, ◌<◌, ◌≡◌, List, length, Err, Ok, Some}
 use Rattle.refusal.specs.declared.Refusal.{Refusal}
 use Rattle.refusal.specs.declared.Refusal.TheVariants as R
 use Rattle.refusal.specs.Codes.{refusal_number}
@@ -11,12 +12,8 @@ use Rattle.layout.specs.declared.Form.{Form}
 use Rattle.layout.specs.declared.Header.{Header}
 use Rattle.layout.specs.Form.{form_of}
 use Rattle.layout.specs.Layout.{pixel_count}
-use Rattle.header.specs.declared.HeaderAnswer.TheVariants as A
 use Rattle.header.specs.Header.{header_of}
-use Rattle.writer.specs.declared.AskedForm.TheVariants as F
-use Rattle.writer.specs.declared.WriteAnswer.TheVariants as WA
 use Rattle.writer.specs.Writer.{frame, write_answer}
-use Rattle.form_choice.specs.declared.Choice.TheVariants.{Chosen, Refused}
 use Rattle.form_choice.specs.Choosing.{rank}
 use Rattle.smallest.specs.Smallest.{made_in, smallest_form, form_in, foretold}
 
@@ -35,17 +32,17 @@ pub record SmallestForm (given pixels : List ℕ) (f : Form) (n : ℕ) : Type 0 
   pub first : (g : Form) (b : List ℕ) → made_in given pixels g ≡ frame b → length b ≡ n → rank f ≤ rank g
 
 abbrev pub Smallest : Type 0
-Smallest = (given pixels : List ℕ) (f : Form) (n : ℕ) → smallest_form given pixels ≡ Chosen f n → SmallestForm given pixels f n
+Smallest = (given pixels : List ℕ) (f : Form) (n : ℕ) → smallest_form given pixels ≡ Ok (form_chosen f n) → SmallestForm given pixels f n
 
 -- the length foretold is the length written: in the form chosen the writer answers so, whatever room it has
 abbrev pub Foretold : Type 0
-Foretold = (given pixels : List ℕ) (room : ℕ) → write_answer given (F.Listed (form_in (smallest_form given pixels))) pixels room ≡ foretold room (smallest_form given pixels)
+Foretold = (given pixels : List ℕ) (room : ℕ) → write_answer given (Some (form_in (smallest_form given pixels))) pixels room ≡ foretold room (smallest_form given pixels)
 
 -- Why there is no form: the header's own refusal, too few pixels, or FORMAT 86.
 pub data Reason (given pixels : List ℕ) : Refusal → Type 0 where
-  by-header : {r : Refusal} → header_of given ≡ A.Refused r → Reason given pixels r
-  too_few : (h : Header) → header_of given ≡ A.Accepted h → length pixels < pixel_count h.image → Reason given pixels R.PixelArrayShort
-  format-86 : (h : Header) (n : ℕ) → header_of given ≡ A.Accepted h → h.tables ≡ T.Format86 n → Reason given pixels R.FormUnavailable
+  by-header : {r : Refusal} → header_of given ≡ Err r → Reason given pixels r
+  too_few : (h : Header) → header_of given ≡ Ok h → length pixels < pixel_count h.image → Reason given pixels R.PixelArrayShort
+  format-86 : (h : Header) (n : ℕ) → header_of given ≡ Ok h → h.tables ≡ T.Format86 n → Reason given pixels R.FormUnavailable
 
 -- The numbers of those refusals: 1 to 10, and 16. So neither 17 nor 18 is answered.
 pub data Due : ℕ → Type 0 where
@@ -59,8 +56,8 @@ pub record NoForm (given pixels : List ℕ) (r : Refusal) : Type 0 where
   pub number : Due (refusal_number r)
 
 abbrev pub RefusedExactly : Type 0
-RefusedExactly = (given pixels : List ℕ) (r : Refusal) → smallest_form given pixels ≡ Refused r → NoForm given pixels r
+RefusedExactly = (given pixels : List ℕ) (r : Refusal) → smallest_form given pixels ≡ Err r → NoForm given pixels r
 
 -- Width 4 with a baseline is never chosen: kind none has no table, so it is no longer, and it is preferred. So seven of the nine forms can be.
 abbrev pub SevenForms : Type 0
-SevenForms = (given pixels : List ℕ) (e : EntryWidth) (n : ℕ) → smallest_form given pixels ≡ Chosen (form_of W.Four (U.Subtracted e)) n → ⊥
+SevenForms = (given pixels : List ℕ) (e : EntryWidth) (n : ℕ) → smallest_form given pixels ≡ Ok (form_chosen (form_of W.Four (U.Subtracted e)) n) → ⊥

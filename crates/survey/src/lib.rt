@@ -1,7 +1,7 @@
 // One pass over the pixels that counts what all nine forms need.
 #![tactic(auto)]
 
-ghost use Rattle.std.specs.Prelude.{◌≡◌, ◌^◌, ◌<◌, ◌≤◌, length, ltb, if◌then◌else◌};
+ghost use Rattle.std.specs.Prelude.{◌≡◌, ◌^◌, ◌<◌, ◌≤◌, length};
 ghost use Rattle.layout.specs.Form.{form_of};
 ghost use Rattle.layout.specs.declared.Width.TheVariants.{One};
 ghost use Rattle.layout.specs.declared.Underflow.TheVariants.{None};
@@ -25,12 +25,6 @@ struct Pair {
     second: u32,
 }
 
-fn one_if_above(v: u32, limit: u32) -> u32
-    ensures { result ≡ if◌then◌else◌ (ltb limit v) 1 0 }
-{
-    if limit < v { 1 } else { 0 }
-}
-
 // Two counts in one loop, of what is above and not of what is from a limit on: fewer instructions for a pixel.
 fn count_pair(block: &[u32], a: u32, b: u32) -> Pair
     requires { length block.now < 2 ^ 32 }
@@ -38,12 +32,9 @@ fn count_pair(block: &[u32], a: u32, b: u32) -> Pair
 {
     let mut first: u32 = 0;
     let mut second: u32 = 0;
-    let mut i = 0;
-    while i < block.len() {
-        let v = block[i];
-        first += one_if_above(v, a);
-        second += one_if_above(v, b);
-        i += 1;
+    for v in block {
+        first += u32::from(a < *v);
+        second += u32::from(b < *v);
     }
     Pair { first, second }
 }
@@ -58,7 +49,8 @@ struct Limits {
     lowest: u32,
 }
 
-// All five counts in one loop.
+// All five counts in one loop. Two counts and five stay two functions: over an array of limits each count would be an element, and
+// the loop over the pixels would have one over the limits within.
 fn count_limits(block: &[u32], base: u32) -> Limits
     requires { (length block.now < 2 ^ 32) × (base ≤ 65535) }
     ensures { result ≡ limits_of base block.now }
@@ -70,15 +62,12 @@ fn count_limits(block: &[u32], base: u32) -> Limits
     let mut over: u32 = 0;
     let mut low_two: u32 = 0;
     let mut low_four: u32 = 0;
-    let mut i = 0;
-    while i < block.len() {
-        let v = block[i];
-        two += one_if_above(v, 254);
-        four += one_if_above(v, 65534);
-        over += one_if_above(v, base);
-        low_two += one_if_above(v, high);
-        low_four += one_if_above(v, higher);
-        i += 1;
+    for v in block {
+        two += u32::from(254 < *v);
+        four += u32::from(65534 < *v);
+        over += u32::from(base < *v);
+        low_two += u32::from(high < *v);
+        low_four += u32::from(higher < *v);
     }
     Limits {
         two,
@@ -93,10 +82,7 @@ fn count_limits(block: &[u32], base: u32) -> Limits
 fn any_large(found: bool, block: &[u32], base: u32) -> bool
     ensures { result ≡ large_after found base block.now }
 {
-    if found {
-        return true;
-    }
-    pixel_counts::any_large(block, base)
+    found || pixel_counts::any_large(block, base)
 }
 
 // What is counted of a block. Where no pixel is 255 or more, only underflows are left.
@@ -163,20 +149,19 @@ fn survey_part(block: &[u32], base: u32, found: bool, dense: bool) -> Survey
     ensures { result ≡ survey_after found base block.now }
 {
     if dense {
-        return survey_dense(block, base, found);
+        survey_dense(block, base, found)
+    } else {
+        survey_block(block, base, found)
     }
-    survey_block(block, base, found)
 }
 
 // One pixel in 16 of a block of 1024 is from 255 on, and one from 65535 on. It decides only how the next block is counted.
 fn is_dense(c: Counts) -> bool {
-    if c.two < 64 {
-        return false;
-    }
-    0 < c.four
+    64 <= c.two && 0 < c.four
 }
 
 // What is counted of two parts together; the second knows of the first whether a large entry was found.
+#[tactic(auto, unfolding(crate::specs::Survey::survey_more))]
 fn add_surveys(a: Survey, b: Survey) -> Survey
     ensures { result ≡ survey_more a b }
 {
@@ -201,25 +186,23 @@ fn no_survey() -> Survey
 }
 
 // What is counted of all pixels: 1024 at a time, and what is left.
+#[tactic(auto, unfolding(crate::specs::Survey::surveyed))]
 pub fn survey_pixels(pixels: &[u32], base: u16) -> Survey
     ensures { result ≡ surveyed base pixels.now }
 {
-    let n = pixels.len();
-    if 16777216 < n {
+    if 16777216 < pixels.len() {
         return no_survey();
     }
-    let b = base as u32;
+    let b = u32::from(base);
     let mut s = no_survey();
     let mut dense = false;
-    let mut p = 0;
-    while 1024 <= n - p {
-        let e = p + 1024;
-        let d = survey_part(&pixels[p..e], b, s.large, dense);
+    let (blocks, rest) = pixels.as_chunks::<1024>();
+    for block in blocks {
+        let d = survey_part(block, b, s.large, dense);
         dense = is_dense(d.none);
         s = add_surveys(s, d);
-        p = e;
     }
-    let d = survey_block(&pixels[p..n], b, s.large);
+    let d = survey_block(rest, b, s.large);
     add_surveys(s, d)
 }
 
@@ -228,10 +211,8 @@ fn count_none(block: &[u32], dense: bool) -> Counts
     requires { length block.now < 2 ^ 32 }
     ensures { result ≡ counts_for (form_of One None) (counts_of 0 block.now) }
 {
-    if !dense {
-        if pixel_counts::count_from(block, 255) == 0 {
-            return pixel_counts::no_counts();
-        }
+    if !dense && pixel_counts::count_from(block, 255) == 0 {
+        return pixel_counts::no_counts();
     }
     let k = count_pair(block, 254, 65534);
     Counts {
@@ -241,32 +222,25 @@ fn count_none(block: &[u32], dense: bool) -> Counts
     }
 }
 
-fn has_any(c: Counts) -> bool {
-    0 < c.two
-}
-
 // What is counted where there is no baseline: the entries without it.
+#[tactic(auto, unfolding(crate::specs::Survey::surveyed_none, pixel_counts::specs::Counts::counted))]
 pub fn survey_none(pixels: &[u32]) -> Survey
     ensures { result ≡ surveyed_none pixels.now }
 {
-    let n = pixels.len();
-    if 16777216 < n {
+    if 16777216 < pixels.len() {
         return no_survey();
     }
     let mut c = pixel_counts::no_counts();
     let mut dense = false;
-    let mut p = 0;
-    while 1024 <= n - p {
-        let e = p + 1024;
-        let d = count_none(&pixels[p..e], dense);
-        dense = has_any(d);
+    let (blocks, rest) = pixels.as_chunks::<1024>();
+    for block in blocks {
+        let d = count_none(block, dense);
+        dense = 0 < d.two;
         c = pixel_counts::add_counts(c, d);
-        p = e;
     }
-    let d = count_none(&pixels[p..n], dense);
-    let none = pixel_counts::add_counts(c, d);
+    let d = count_none(rest, dense);
     Survey {
-        none,
+        none: pixel_counts::add_counts(c, d),
         subtracted: pixel_counts::no_counts(),
         large: false,
     }

@@ -1,6 +1,6 @@
 -- Laws of the entries of a table.
 -- Assumes nothing.
-use Rattle.std.proofs.Common.{◌≡◌, ℕ, zero, suc, ◌+◌, ◌-◌, ◌*◌, ◌/◌, ◌<◌, ◌≤◌, Bool, true, false, ◌&&◌, eqb, List, [], ◌∷◌, ◌++◌, length, get_or, take, drop, set, sym, refl, ◌∙◌, le_of_suc-le-suc, not-suc-le-zero, mul-le-mul_right, suc-mul, zero-mul, div-mul-le_self, mul-div_cancel, add-one, arith, length-drop, drop_of_length-le, length-take-le, take_all, take-suc, eq-eqb, ne_eqb}
+use Rattle.std.proofs.Common.{◌≡◌, ℕ, zero, suc, ◌+◌, ◌-◌, ◌*◌, ◌/◌, ◌<◌, ◌≤◌, Bool, true, false, ◌&&◌, eqb, List, [], ◌∷◌, ◌++◌, length, get_or, take, drop, set, sym, refl, ◌∙◌, le_of_suc-le-suc, not-suc-le-zero, mul-le-mul_right, suc-mul, div-mul-le_self, mul-div_cancel, add-one, arith, length-drop, drop_of_length-le, length-take-le, take_all, take-suc, eq-eqb, ne_eqb}
 use mathlib.Core.Bool.{and-true, and-false}
 use lib.ListN.{get_or-eq_default}
 use Rattle.lists.specs.Bytes.{little, chunked}
@@ -70,20 +70,24 @@ whole_part w n a t p h =
     let l : length (take (n * w) (drop a t)) ≡ n * w = length-take-le (n * w) (drop a t) (rw length-drop (omega arith)) in
     rw (e, l, mul-div_cancel n p, entries-take w n (n * w) (drop a t) (omega arith))
 
+-- the bytes of one entry, taken out of the table
+pub length-one : (w at : ℕ) (t : List ℕ) → at + w ≤ length t → length (take (at + w - at) (drop at t)) ≡ w
+length-one w at t h =
+    let e : at + w - at ≡ w = omega arith in
+    rw e (length-take-le w (drop at t) (rw length-drop (omega arith)))
+
+pub little-one : (w at : ℕ) (t : List ℕ) → at + w ≤ length t → little (length (take (at + w - at) (drop at t))) (take (at + w - at) (drop at t)) ≡ little w (drop at t)
+little-one w at t h =
+    let e : at + w - at ≡ w = omega arith in
+    rw (length-one w at t h, e) (little-take w w (drop at t) (omega arith))
+
 -- The loop that reads entries.
-pub record Loading (w : ℕ) (t out₀ out : List ℕ) (at i : ℕ) : Type 0 where
-  pub writes : Writing (entries w (length out₀) t) out₀ out i
-  pub at-is : at ≡ i * w
+pub loading-start : (w : ℕ) (t out : List ℕ) → Writing (entries w (length out) t) out out 0
+loading-start w t out = writing_start _ _ (rw length-entries (omega arith))
 
-pub loading-start : (w : ℕ) (t out : List ℕ) → Loading w t out out 0 0
-loading-start w t out = record { writes = writing_start _ _ (rw length-entries (omega arith)); at-is = sym (zero-mul w) }
-
-pub loading-more : {w : ℕ} {t out₀ out : List ℕ} {at i : ℕ} (v : ℕ) → Loading w t out₀ out at i → i < length out₀ → v ≡ little w (drop at t)
-    → Loading w t out₀ (set out i v) (at + w) (i + 1)
-loading-more {w} {t} {out₀} {out} {at} {i} v f h e = record {
-  writes = writing_more v f.writes (rw length-entries h) (e ∙ rw (entries_at w (length out₀) t i h, f.at-is));
-  at-is = rw (add-one, f.at-is) (omega (arith, suc-mul i w));
-}
+pub loading-more : (w : ℕ) (t : List ℕ) {out₀ out : List ℕ} {i : ℕ} (v : ℕ) → Writing (entries w (length out₀) t) out₀ out i → i < length out₀ → v ≡ little w (drop (i * w) t)
+    → Writing (entries w (length out₀) t) out₀ (set out i v) (i + 1)
+loading-more w t {out₀} {out} {i} v f h e = writing_more v f (rw length-entries h) (e ∙ sym (entries_at w (length out₀) t i h))
 
 -- The loop that looks for a byte other than 0.
 pub record Scanning (t : List ℕ) (zero? : Bool) (i : ℕ) : Type 0 where

@@ -1,6 +1,6 @@
 -- Laws of entries written as bytes, and the loops that write them.
 -- Assumes nothing.
-use Rattle.std.proofs.Common.{◌≡◌, ℕ, zero, suc, ◌+◌, ◌-◌, ◌*◌, ◌/◌, ◌%◌, ◌<◌, ◌≤◌, leb, List, [], ◌∷◌, ◌++◌, map, length, get_or, take, drop, set, sym, refl, ap, ◌∙◌, append_assoc, append-nil, mul-le-mul_right, suc-mul, add-mul, zero-mul, add-one, arith, length-append, length-drop, length-set, take-append-drop, drop_of_length-le, length-take, length-take-le, take-suc, drop-drop, take-suc-set, take_at, drop-set-lt, drop_at, le-leb}
+use Rattle.std.proofs.Common.{◌≡◌, ℕ, zero, suc, ◌+◌, ◌-◌, ◌*◌, ◌/◌, ◌%◌, ◌<◌, ◌≤◌, leb, List, [], ◌∷◌, ◌++◌, map, length, get_or, take, drop, set, sym, refl, ap, ◌∙◌, append_assoc, append-nil, mul-le-mul_right, suc-mul, add-mul, zero-mul, add-one, arith, length-append, length-drop, take-append-drop, drop_of_length-le, length-take, length-take-le, take-suc, drop-drop, take-suc-set, take_at, take_all, drop_at, le-leb}
 use lib.Seq.{append_snoc, take-length}
 use borrow.Rule.Slice.PartMut.{put_mid, Post-is}
 use Rattle.std.specs.Prelude.{if◌then◌else◌}
@@ -8,6 +8,7 @@ use Rattle.lists.specs.Bytes.{little_bytes, over}
 use Rattle.lists.specs.Parts.{with_part}
 use Rattle.lists.proofs.Numbers.{mul-split}
 use Rattle.lists.proofs.Halves.{Halves, written-more, written-end}
+use Rattle.table.proofs.Laws.{length-one}
 use Rattle.table.specs.Writing.{table_of, less_wrapped}
 
 pub length-little_bytes : (w v : ℕ) → length (little_bytes w v) ≡ w
@@ -25,79 +26,58 @@ unfolding table_of
 length-table w [] = sym (zero-mul w)
 length-table w (x ∷ xs) = rw (length-append, length-little_bytes, length-table w xs) (omega (arith, suc-mul (length xs) w))
 
--- The loop that writes a number's bytes.
-pub record Putting (t₀ t goal : List ℕ) (end at x : ℕ) : Type 0 where
-  pub upto : at ≤ end
-  pub room : end ≤ length t
-  pub same : length t ≡ length t₀
-  pub is : take at t ++ (little_bytes (end - at) x ++ drop end t) ≡ goal
-
-pub putting-start : (t : List ℕ) (from w x : ℕ) → from + w ≤ length t → Putting t t (take from t ++ (little_bytes w x ++ drop (from + w) t)) (from + w) from x
-putting-start t from w x h = record {
-  upto = omega arith;
-  room = h;
-  same = refl;
-  is = let e : from + w - from ≡ w = omega arith in rw e;
-}
-
-pub putting-more : {t₀ t goal : List ℕ} {end at x : ℕ} → Putting t₀ t goal end at x → at < end → Putting t₀ (set t at (x % 256)) goal end (at + 1) (x / 256)
+-- The loop that writes a number's bytes: one more of them.
+pub putting-more : (t : List ℕ) (i x : ℕ) → i < length t
+    → take (i + 1) (set t i (x % 256)) ++ little_bytes (length t - (i + 1)) (x / 256) ≡ take i t ++ little_bytes (length t - i) x
 unfolding little_bytes
-putting-more {t₀} {t} {goal} {end} {at} {x} f h =
-    let n : end - at ≡ suc (end - suc at) = omega arith in
-    record {
-      upto = omega arith;
-      room = simp length-set f.room;
-      same = simp length-set f.same;
-      is = rw (add-one, drop-set-lt end t at _ h, take-suc-set t at _ (omega (arith, f.room)), append_snoc) (rw n at f.is);
-    }
+putting-more t i x h =
+    let n : length t - i ≡ suc (length t - suc i) = omega arith in
+    rw (n, add-one, take-suc-set t i _ h, append_snoc)
 
-pub putting-done : {t₀ t goal : List ℕ} {end at x : ℕ} → Putting t₀ t goal end at x → end ≤ at → t ≡ goal
+pub putting-done : (t goal : List ℕ) (i x : ℕ) → take i t ++ little_bytes (length t - i) x ≡ goal → length t ≤ i → t ≡ goal
 unfolding little_bytes
-putting-done {t₀} {t} {goal} {end} {at} {x} f h =
-    let e : at ≡ end = omega (arith, f.upto) in
-    let n : end - end ≡ 0 = omega arith in
-    sym (take-append-drop end t) ∙ (rw (e, n) at f.is)
+putting-done t goal i x f h =
+    let n : length t - i ≡ 0 = omega arith in
+    sym (append-nil t) ∙ (rw (n, take_all i t h) at f)
+
+-- a number put into the place of an entry
+pub put-one : (w at v : ℕ) (t ys : List ℕ) → at + w ≤ length t → ys ≡ little_bytes (length (take (at + w - at) (drop at t))) v
+    → put_mid at (at + w - at) t ys ≡ take at t ++ (little_bytes w v ++ drop (at + w) t)
+put-one w at v t ys h q =
+    let l = length-one w at t h in
+    let y : ys ≡ little_bytes w v = q ∙ rw l in
+    rw (y, Post-is at (at + w) t (omega arith))
 
 -- The loop that writes entries.
-pub record Storing (w : ℕ) (values out₀ out : List ℕ) (at i : ℕ) : Type 0 where
-  pub upto : i ≤ length values
-  pub at-is : at ≡ i * w
+pub record Storing (w : ℕ) (values out₀ out : List ℕ) (i : ℕ) : Type 0 where
   pub same : length out ≡ length out₀
-  pub is : out ≡ table_of w (take i values) ++ drop at out₀
+  pub is : out ≡ table_of w (take i values) ++ drop (i * w) out₀
 
-pub storing-start : (w : ℕ) (values out : List ℕ) → Storing w values out out 0 0
+pub storing-start : (w : ℕ) (values out : List ℕ) → Storing w values out out 0
 unfolding table_of
-storing-start w values out = record { upto = omega arith; at-is = sym (zero-mul w); same = refl; is = refl }
+storing-start w values out = record { same = refl; is = rw zero-mul }
 
-pub storing-more : {w : ℕ} {values out₀ out out' : List ℕ} {at i : ℕ} (v : ℕ) → Storing w values out₀ out at i → i < length values → at + w ≤ length out₀ → v ≡ get_or values i 0
-    → out' ≡ take at out ++ (little_bytes w v ++ drop (at + w) out) → Storing w values out₀ out' (at + w) (i + 1)
+pub storing-more : {w : ℕ} {values out₀ out out' : List ℕ} {i : ℕ} (v : ℕ) → Storing w values out₀ out i → i < length values → i * w + w ≤ length out₀ → v ≡ get_or values i 0
+    → out' ≡ take (i * w) out ++ (little_bytes w v ++ drop (i * w + w) out) → Storing w values out₀ out' (i + 1)
 unfolding table_of
-storing-more {w} {values} {out₀} {out} {out'} {at} {i} v f h room is e =
+storing-more {w} {values} {out₀} {out} {out'} {i} v f h room is e =
     let done : List ℕ = table_of w (take i values) in
-    let l : length done ≡ at = length-table w (take i values) ∙ rw f.at-is (ap (λ (n : ℕ). n * w) (length-take-le i values (omega arith))) in
+    let l : length done ≡ i * w = length-table w (take i values) ∙ ap (λ (n : ℕ). n * w) (length-take-le i values (omega arith)) in
     record {
-      upto = omega arith;
-      at-is = rw (add-one, f.at-is) (omega (arith, suc-mul i w));
       same = ap length e ∙ simp (length-append, length-little_bytes, length-take, length-drop) (omega (arith, f.same));
       is =
           e
           ∙ rw
-          (is, f.is, take_at done (drop at out₀) at l, ← drop-drop w at (done ++ drop at out₀), drop_at done (drop at out₀) at l, drop-drop, add-one, take-suc values i 0 h, table-append, append-nil, append_assoc);
+          (is, f.is, take_at done (drop (i * w) out₀) (i * w) l, ← drop-drop w (i * w) (done ++ drop (i * w) out₀), drop_at done (drop (i * w) out₀) (i * w) l, drop-drop, add-one, suc-mul, take-suc values i 0 h, table-append, append-nil, append_assoc);
     }
 
-pub storing-done : {w : ℕ} {values out₀ out : List ℕ} {at i : ℕ} → Storing w values out₀ out at i → length values ≤ i → out ≡ table_of w values ++ drop (length values * w) out₀
-storing-done {w} {values} {out₀} {out} {at} {i} f h =
-    let e : i ≡ length values = omega (arith, f.upto) in
-    f.is ∙ rw (f.at-is, e, take-length)
+pub storing-done : {w : ℕ} {values out₀ out : List ℕ} {i : ℕ} → Storing w values out₀ out i → i ≡ length values → out ≡ table_of w values ++ drop (length values * w) out₀
+storing-done f e = f.is ∙ rw (e, take-length)
 
 -- one entry put over a table
 pub entry-over : (w at v : ℕ) (t : List ℕ) → take at t ++ (little_bytes w v ++ drop (at + w) t) ≡ over at (table_of w (v ∷ [])) t
 unfolding table_of over
 entry-over w at v t = rw (append-nil, length-little_bytes)
-
--- wrapping subtraction, by its contract
-pub less-wrapped : (r base v : ℕ) → r < 4294967296 → base < 4294967296 → (r + base) % 4294967296 ≡ v → r ≡ less_wrapped base v
-less-wrapped r base v h k e = omega arith
 
 -- less 0, numbers of 32 bits are themselves
 pub less_none : (xs : List ℕ) → ((i : ℕ) → get_or xs i 0 < 4294967296) → map (less_wrapped 0) xs ≡ xs

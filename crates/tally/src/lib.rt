@@ -16,21 +16,6 @@ pub struct Tally {
     pub outside: usize,
 }
 
-fn one_if_equal(v: u32, m: u32) -> u32
-    ensures { result ≡ if◌then◌else◌ (eqb v m) 1 0 }
-{
-    if v == m { 1 } else { 0 }
-}
-
-fn one_if_outside(v: u32, low: u32, high: u32) -> u32
-    ensures { result ≡ if◌then◌else◌ (is_outside low high v) 1 0 }
-{
-    if v < low {
-        return 1;
-    }
-    if high < v { 1 } else { 0 }
-}
-
 // As many entries as the block has places. Each width is written at the call, so that each loop is compiled for its width.
 fn load_block(t: &[u8], w: Width, block: &mut [u32])
     requires { length block.old * width_bytes w ≤ length t.now }
@@ -57,13 +42,10 @@ fn tally_block(block: &[u32], mark: u32, low: u32, high: u32) -> Tally
     let mut zeros: u32 = 0;
     let mut marks: u32 = 0;
     let mut outside: u32 = 0;
-    let mut i = 0;
-    while i < block.len() {
-        let v = block[i];
-        zeros += one_if_equal(v, 0);
-        marks += one_if_equal(v, mark);
-        outside += one_if_outside(v, low, high);
-        i += 1;
+    for v in block {
+        zeros += u32::from(*v == 0);
+        marks += u32::from(*v == mark);
+        outside += u32::from((*v < low) | (high < *v));
     }
     Tally {
         zeros: zeros as usize,
@@ -92,14 +74,6 @@ fn add_tallies(a: Tally, b: Tally) -> Tally
     }
 }
 
-// The end of the block that starts at p.
-fn block_end(p: usize, n: usize, size: usize) -> usize
-    requires { (p < n) × (1 ≤ size) }
-    ensures { (p < result) × (result ≤ n) × (result ≤ p + size) }
-{
-    if size < n - p { p + size } else { n }
-}
-
 // The counts of all whole entries, in one pass over blocks.
 fn tally_blocks(t: &[u8], w: Width, mark: u32, low: u32, high: u32, room: &mut [u32]) -> Tally
     requires { length room.old ≡ 64 }
@@ -112,22 +86,14 @@ fn tally_blocks(t: &[u8], w: Width, mark: u32, low: u32, high: u32, room: &mut [
         marks: 0,
         outside: 0,
     };
-    let mut p = 0;
-    while p < n {
-        let e = block_end(p, n, 64);
+    for block in 0..n.div_ceil(64) {
+        let p = block * 64;
+        let k = (n - p).min(64);
         let at = p * each;
-        let k = e - p;
         let d = tally_part(&t[at..], w, mark, low, high, &mut room[..k]);
         c = add_tallies(c, d);
-        p = e;
     }
     c
-}
-
-fn one_if_same(v: u8, m: u8) -> u8
-    ensures { result ≡ if◌then◌else◌ (eqb v m) 1 0 }
-{
-    if v == m { 1 } else { 0 }
 }
 
 // How many bytes are m, counted in a byte.
@@ -136,10 +102,8 @@ fn count_byte(s: &[u8], m: u8) -> u8
     ensures { result ≡ count m s.now }
 {
     let mut k: u8 = 0;
-    let mut i = 0;
-    while i < s.len() {
-        k += one_if_same(s[i], m);
-        i += 1;
+    for b in s {
+        k += u8::from(*b == m);
     }
     k
 }
@@ -150,12 +114,11 @@ fn tally_bytes(t: &[u8], mark: u8) -> Tally
 {
     let mut zeros: usize = 0;
     let mut marks: usize = 0;
-    let mut p = 0;
-    while p < t.len() {
-        let e = block_end(p, t.len(), 192);
+    for block in 0..t.len().div_ceil(192) {
+        let p = block * 192;
+        let e = p + (t.len() - p).min(192);
         zeros += count_byte(&t[p..e], 0) as usize;
         marks += count_byte(&t[p..e], mark) as usize;
-        p = e;
     }
     Tally {
         zeros,
@@ -168,16 +131,11 @@ fn tally_bytes(t: &[u8], mark: u8) -> Tally
 fn holds_bytes(mark: u32, low: u32, high: u32) -> bool
     ensures { result ≡ (leb mark 255 && eqb low 0 && leb 255 high) }
 {
-    if 255 < mark {
-        return false;
-    }
-    if low != 0 {
-        return false;
-    }
-    255 <= high
+    mark <= 255 && low == 0 && 255 <= high
 }
 
-// The counts of all whole entries of a table. Bytes are counted where they stand.
+// The counts of all whole entries of a table. Bytes are counted where they stand. The mark and the range stay three numbers: a struct of
+// them would be made in this one call and taken apart in each loop.
 pub fn tally_table(t: &[u8], w: Width, mark: u32, low: u32, high: u32) -> Tally
     ensures { result ≡ tally_of mark low high (whole_entries (width_bytes w) t.now) }
 {

@@ -1,5 +1,7 @@
 -- Document 01, "Trials on both sides": the starred cases as rows of one table, under one theorem.
 -- Assumes nothing.
+use Rattle.std.specs.Prelude.{Err, Ok, Result}
+use Rattle.refusal.specs.declared.Refusal.{Refusal}
 use mathlib.Core.Path.{◌≡◌, refl}
 use mathlib.Core.List.{List, [], ◌∷◌, ◌++◌}
 use Prim.Native.Nat.{ℕ}
@@ -16,8 +18,6 @@ use Rattle.layout.specs.declared.Form.{Form}
 use Rattle.layout.specs.declared.Image.{Image}
 use Rattle.layout.specs.declared.BinaryTables.{BinaryTables}
 use Rattle.layout.specs.Layout.{table_bytes, text_table_bytes}
-use Rattle.expand.specs.declared.Expanded.{Expanded}
-use Rattle.expand.specs.declared.Expanded.TheVariants as X
 use Rattle.expand.specs.Steps.{Stored, fill_by, count}
 use Rattle.expand.specs.Expand.{binary_answer, binary_pixels}
 use Rattle.writer.specs.Storing.{stored_for}
@@ -25,16 +25,12 @@ use Rattle.writer.specs.Frame.{body_bytes}
 use Rattle.calendar.specs.declared.Date.{Date}
 use Rattle.ledger.specs.declared.Kind.TheVariants.{Correction, Withdrawal}
 use Rattle.ledger.specs.declared.Line.{Line}
-use Rattle.ledger.specs.declared.LedgerAnswer.{LedgerAnswer}
-use Rattle.ledger.specs.declared.LedgerAnswer.TheVariants as L
-use Rattle.ledger.specs.declared.PurgeAnswer.{PurgeAnswer}
-use Rattle.ledger.specs.declared.PurgeAnswer.TheVariants as P
 use Rattle.ledger.specs.Standing.{standing}
 use Rattle.ledger.specs.Ledger.{keep_line, keep_answer, keep_bytes, purge_answer}
 
 pub data Row : Type 0 where
   -- image and tables of so many bytes each are read: the answer, and an array of zeros afterwards
-  reads : List ℕ → Image → BinaryTables → ℕ → Expanded → List ℕ → Row
+  reads : List ℕ → Image → BinaryTables → ℕ → Result ℕ Refusal → List ℕ → Row
   -- pixels are stored in a form with a baseline
   stores : Form → ℕ → List ℕ → Stored → Row
   -- pixels are written in a form with a baseline: the image and the tables in bytes
@@ -44,9 +40,9 @@ pub data Row : Type 0 where
   -- the same for the text entries of FORMAT 86
   text_padded : ℕ → ℕ → Row
   -- a keep entry into the bytes with so many lines: the answer, and the bytes after it
-  kept : List ℕ → ℕ → Date → LedgerAnswer → List ℕ → Row
+  kept : List ℕ → ℕ → Date → Result ℕ Refusal → List ℕ → Row
   -- a purge question
-  asked : List ℕ → ℕ → Date → PurgeAnswer → Row
+  asked : List ℕ → ℕ → Date → Result (Unit {0}) Refusal → Row
   -- lines, and those that stand
   left : List Line → List Line → Row
 
@@ -106,9 +102,9 @@ kept_bytes = 95 ∷ 190 ∷ 196 ∷ zeros 13
 
 abbrev pub rows : List Row
 rows =
-    reads example (row 4 W.One) (tables (H.Counted E.One 1 32) 2 1) 4 (X.Frame 52) example_pixels
-    ∷ reads (0 ∷ []) (row 1 W.One) (tables (H.Counted E.One 0 32) 0 0) 1 (X.Refused R.CountMismatch) (0 ∷ [])
-    ∷ reads (0 ∷ 7 ∷ []) (row 2 W.One) (tables H.Unused 0 0) 2 (X.Frame 2) (0 ∷ 7 ∷ [])
+    reads example (row 4 W.One) (tables (H.Counted E.One 1 32) 2 1) 4 (Ok 52) example_pixels
+    ∷ reads (0 ∷ []) (row 1 W.One) (tables (H.Counted E.One 0 32) 0 0) 1 (Err R.CountMismatch) (0 ∷ [])
+    ∷ reads (0 ∷ 7 ∷ []) (row 2 W.One) (tables H.Unused 0 0) 2 (Ok 2) (0 ∷ 7 ∷ [])
     ∷ writes bytes_of1 32 example_pixels example
     ∷ stores (none W.One) 0 (254 ∷ []) (stored (254 ∷ []) [] [] [])
     ∷ stores (none W.One) 0 (255 ∷ []) (stored (255 ∷ []) [] (255 ∷ []) [])
@@ -122,23 +118,23 @@ rows =
     ∷ padded 4 5 32
     ∷ text_padded 32 512
     ∷ text_padded 33 1024
-    ∷ kept (zeros 16) 0 (date 2031 11 2) (L.Accepted 1) kept_bytes
-    ∷ asked kept_bytes 1 (date 2031 11 2) (P.Refused R.NotYet)
-    ∷ asked kept_bytes 1 (date 2031 11 3) P.Allowed
+    ∷ kept (zeros 16) 0 (date 2031 11 2) (Ok 1) kept_bytes
+    ∷ asked kept_bytes 1 (date 2031 11 2) (Err R.NotYet)
+    ∷ asked kept_bytes 1 (date 2031 11 3) (Ok tt)
     ∷ left (correction 17 300 301 ∷ keep_line (date 2031 11 2) ∷ correction 5 1 2 ∷ withdrawal ∷ withdrawal ∷ []) (correction 17 300 301 ∷ [])
-    ∷ kept (zeros 16) 0 (date 1900 2 29) (L.Refused R.NotADate) (zeros 16)
+    ∷ kept (zeros 16) 0 (date 1900 2 29) (Err R.NotADate) (zeros 16)
     ∷ []
 
 -- each row by itself: what one of them unfolds need not be computed in the others
-read-example : holds (reads example (row 4 W.One) (tables (H.Counted E.One 1 32) 2 1) 4 (X.Frame 52) example_pixels)
+read-example : holds (reads example (row 4 W.One) (tables (H.Counted E.One 1 32) 2 1) 4 (Ok 52) example_pixels)
 unfolding binary_answer binary_pixels
 read-example = (refl, refl)
 
-zero-wanting : holds (reads (0 ∷ []) (row 1 W.One) (tables (H.Counted E.One 0 32) 0 0) 1 (X.Refused R.CountMismatch) (0 ∷ []))
+zero-wanting : holds (reads (0 ∷ []) (row 1 W.One) (tables (H.Counted E.One 0 32) 0 0) 1 (Err R.CountMismatch) (0 ∷ []))
 unfolding binary_answer binary_pixels
 zero-wanting = (refl, refl)
 
-zeros-stay : holds (reads (0 ∷ 7 ∷ []) (row 2 W.One) (tables H.Unused 0 0) 2 (X.Frame 2) (0 ∷ 7 ∷ []))
+zeros-stay : holds (reads (0 ∷ 7 ∷ []) (row 2 W.One) (tables H.Unused 0 0) 2 (Ok 2) (0 ∷ 7 ∷ []))
 unfolding binary_answer binary_pixels
 zeros-stay = (refl, refl)
 
@@ -182,15 +178,15 @@ text-pads : (text_table_bytes 32 ≡ 512) × (text_table_bytes 33 ≡ 1024)
 unfolding text_table_bytes
 text-pads = (refl, refl)
 
-first-keep : holds (kept (zeros 16) 0 (date 2031 11 2) (L.Accepted 1) kept_bytes)
+first-keep : holds (kept (zeros 16) 0 (date 2031 11 2) (Ok 1) kept_bytes)
 unfolding keep_answer keep_bytes big_from big_bytes
 first-keep = (refl, refl)
 
-same-day : holds (asked kept_bytes 1 (date 2031 11 2) (P.Refused R.NotYet))
+same-day : holds (asked kept_bytes 1 (date 2031 11 2) (Err R.NotYet))
 unfolding purge_answer big_from
 same-day = refl
 
-next-day : holds (asked kept_bytes 1 (date 2031 11 3) P.Allowed)
+next-day : holds (asked kept_bytes 1 (date 2031 11 3) (Ok tt))
 unfolding purge_answer big_from
 next-day = refl
 
@@ -198,7 +194,7 @@ two-withdrawn : holds (left (correction 17 300 301 ∷ keep_line (date 2031 11 2
 unfolding standing
 two-withdrawn = refl
 
-no-leap-day : holds (kept (zeros 16) 0 (date 1900 2 29) (L.Refused R.NotADate) (zeros 16))
+no-leap-day : holds (kept (zeros 16) 0 (date 1900 2 29) (Err R.NotADate) (zeros 16))
 unfolding keep_answer keep_bytes big_from big_bytes
 no-leap-day = (refl, refl)
 

@@ -1,20 +1,19 @@
 -- The last standing line that passes a test: it decides; the listing has it under its number; and after withdrawals that took it, an earlier one decides, or none.
 -- Assumes nothing.
+use Rattle.ledger.specs.Standing.{line_found}
+use Rattle.ledger.specs.declared.Found.{Found}
 use mathlib.Core.Path.{◌≡◌, refl, sym, ap, ◌∙◌}
 use mathlib.Core.Bool.{Bool, true, false, not, ◌&&◌, and-true}
 use mathlib.Core.List.{List, [], ◌∷◌, ◌++◌, append_assoc}
 use Prim.Native.Nat.{ℕ, zero, suc, pred, ◌+◌, ◌-◌, ◌≤◌, ◌<◌}
-use native.Mathlib.Numerals.{add-one}
 use native.Mathlib.Omega.{arith}
 use lib.ListN.{length, drop, length-drop}
 use lib.Dec.{ltb}
 use borrow.Author.Tests.{not-true, le-ltb, ltb-true, ltb-false}
-use Rattle.std.specs.Prelude.{if◌then◌else◌}
+use Rattle.std.specs.Prelude.{None, Option, Some}
 use Rattle.lists.proofs.Tests.{and-true-left, and-true-right}
 use Rattle.ledger.specs.declared.Line.{Line}
-use Rattle.ledger.specs.declared.Found.{Found}
-use Rattle.ledger.specs.declared.Found.TheVariants.{At, Nothing}
-use Rattle.ledger.specs.Standing.{withdraws, stands, cancelled, or_else, last_standing}
+use Rattle.ledger.specs.Standing.{withdraws, stands, cancelled, last_standing}
 use Rattle.ledger.specs.Lines.{lines_of}
 use Rattle.ledger.proofs.StandingLaws.{depth, cancelled-is}
 use Rattle.ledger.proofs.Scanning.{length-lines}
@@ -27,27 +26,27 @@ apart : true ≡ false → ⊥
 apart e = let z : ◌≡◌ {A = ℕ} 0 1 = cc in omega arith
 
 -- the line found, by its number
-abbrev pub named_in : Found → List Numbered
-named_in Nothing = []
-named_in (At index line) = numbered index line ∷ []
+abbrev pub named_in : Option Found → List Numbered
+named_in None = []
+named_in (Some fd) = numbered fd.index fd.line ∷ []
 
 module _ (test : Line → Bool) where
   -- nothing is found exactly where none stands
 
-  pub none-stands : (i : ℕ) (ls : List Line) → last_standing test i ls ≡ Nothing → NoneStands test ls
+  pub none-stands : (i : ℕ) (ls : List Line) → last_standing test i ls ≡ None → NoneStands test ls
   unfolding last_standing stands_at
   none-stands i [] e m = refl
   none-stands i (x ∷ ls) e m = go m (stands x ls && test x) refl (last_standing test (suc i) ls) refl (none-stands (suc i) ls)
     where
-      go : (m : ℕ) (b : Bool) → (stands x ls && test x) ≡ b → (f : Found) → last_standing test (suc i) ls ≡ f
-          → (last_standing test (suc i) ls ≡ Nothing → NoneStands test ls) → stands_at test m (x ∷ ls) ≡ false
-      go m true q Nothing h ih = let w : At i x ≡ Nothing = rw (q, h) at e in let z : ◌≡◌ {A = ℕ} 0 1 = cc in absurd (omega arith)
-      go m true q (At a y) h ih = let w : At a y ≡ Nothing = rw (q, h) at e in let z : ◌≡◌ {A = ℕ} 0 1 = cc in absurd (omega arith)
+      go : (m : ℕ) (b : Bool) → (stands x ls && test x) ≡ b → (f : Option Found) → last_standing test (suc i) ls ≡ f
+          → (last_standing test (suc i) ls ≡ None → NoneStands test ls) → stands_at test m (x ∷ ls) ≡ false
+      go m true q None h ih = let w : Some (line_found i x) ≡ None = rw (q, h) at e in let z : ◌≡◌ {A = ℕ} 0 1 = cc in absurd (omega arith)
+      go m true q (Some fd) h ih = let w : Some (line_found fd.index fd.line) ≡ None = rw (q, h) at e in let z : ◌≡◌ {A = ℕ} 0 1 = cc in absurd (omega arith)
       go zero false q f h ih = q
       go (suc m) false q f h ih = ih (rw q at e) m
 
   -- what is found decides, where the first line has index i
-  found_from : (i : ℕ) (ls : List Line) (j : ℕ) (l : Line) → last_standing test i ls ≡ At j l → (i ≤ j) × Decides test ls (numbered (j - i) l)
+  found_from : (i : ℕ) (ls : List Line) (j : ℕ) (l : Line) → last_standing test i ls ≡ Some (line_found j l) → (i ≤ j) × Decides test ls (numbered (j - i) l)
   unfolding last_standing stands_at
   found_from i [] j l e = let z : ◌≡◌ {A = ℕ} 0 1 = cc in absurd (omega arith)
   found_from i (x ∷ ls) j l e = go (stands x ls && test x) refl (last_standing test (suc i) ls) refl (found_from (suc i) ls j l)
@@ -69,26 +68,27 @@ module _ (test : Line → Bool) where
           at zero h = absurd (omega arith)
           at (suc m) h = n m
 
-      go : (b : Bool) → (stands x ls && test x) ≡ b → (f : Found) → last_standing test (suc i) ls ≡ f
-          → (last_standing test (suc i) ls ≡ At j l → (suc i ≤ j) × Decides test ls (numbered (j - suc i) l)) → (i ≤ j) × Decides test (x ∷ ls) (numbered (j - i) l)
+      go : (b : Bool) → (stands x ls && test x) ≡ b → (f : Option Found) → last_standing test (suc i) ls ≡ f
+          → (last_standing test (suc i) ls ≡ Some (line_found j l) → (suc i ≤ j) × Decides test ls (numbered (j - suc i) l)) → (i ≤ j) × Decides test (x ∷ ls) (numbered (j - i) l)
       go false q f h ih = on (ih (rw q at e))
-      go true q (At a y) h ih = let w : At a y ≡ At j l = rw (q, h) at e in on (ih (h ∙ w))
-      go true q Nothing h ih =
-          let w : At i x ≡ At j l = rw (q, h) at e in
-          let k : i ≡ j = cc in
-          let y : x ≡ l = cc in
+      go true q (Some fd) h ih = let w : Some (line_found fd.index fd.line) ≡ Some (line_found j l) = rw (q, h) at e in on (ih (h ∙ w))
+      go true q None h ih =
+          let w : Some (line_found i x) ≡ Some (line_found j l) = rw (q, h) at e in
+          let f : line_found i x ≡ line_found j l = cc in
+          let k : i ≡ j = ap (λ (fd : Found). fd.index) f in
+          let y : x ≡ l = ap (λ (fd : Found). fd.line) f in
           let z : j - i ≡ 0 = omega arith in
           (omega arith, rw (z, ← y) (first q (none-stands (suc i) ls h)))
 
   pub found-decides : (ls : List Line) (d : Numbered) → named_in (last_standing test 0 ls) ≡ d ∷ [] → Decides test ls d
   found-decides ls d e = go (last_standing test 0 ls) refl e
     where
-      go : (f : Found) → last_standing test 0 ls ≡ f → named_in f ≡ d ∷ [] → Decides test ls d
-      go Nothing q h = let z : ◌≡◌ {A = ℕ} 0 1 = cc in absurd (omega arith)
-      go (At j l) q h =
-          let is : numbered j l ≡ d = cc in
-          let z : j - 0 ≡ j = omega arith in
-          rw is at (rw z at (found_from 0 ls j l q).1)
+      go : (f : Option Found) → last_standing test 0 ls ≡ f → named_in f ≡ d ∷ [] → Decides test ls d
+      go None q h = let z : ◌≡◌ {A = ℕ} 0 1 = cc in absurd (omega arith)
+      go (Some fd) q h =
+          let is : numbered fd.index fd.line ≡ d = cc in
+          let z : fd.index - 0 ≡ fd.index = omega arith in
+          rw is at (rw z at (found_from 0 ls fd.index fd.line q).1)
 
   stands-at : (ls : List Line) (k : ℕ) (l : Line) → drop k ls ≡ l ∷ drop (suc k) ls → stands l (drop (suc k) ls) ≡ true → test l ≡ true → stands_at test k ls ≡ true
   unfolding stands_at
@@ -100,21 +100,21 @@ module _ (test : Line → Bool) where
   pub decides-stands : (ls : List Line) (d : Numbered) → (r : Decides test ls d) → stands_at test r.index ls ≡ true
   decides-stands ls d r = stands-at ls r.index d.line r.line r.stands r.passes
 
-  pub found_nothing : (ls : List Line) → NoneStands test ls → last_standing test 0 ls ≡ Nothing
+  pub found_nothing : (ls : List Line) → NoneStands test ls → last_standing test 0 ls ≡ None
   found_nothing ls none = go (last_standing test 0 ls) refl
     where
-      go : (f : Found) → last_standing test 0 ls ≡ f → f ≡ Nothing
-      go Nothing q = refl
-      go (At j l) q =
-          let r = found-decides ls (numbered j l) (ap named_in q) in
-          absurd (apart (sym (decides-stands ls (numbered j l) r) ∙ none r.index))
+      go : (f : Option Found) → last_standing test 0 ls ≡ f → f ≡ None
+      go None q = refl
+      go (Some fd) q =
+          let r = found-decides ls (numbered fd.index fd.line) (ap named_in q) in
+          absurd (apart (sym (decides-stands ls (numbered fd.index fd.line) r) ∙ none r.index))
 
 -- its number is at most that of the lines
 
 index-small : (k : ℕ) (ls : List Line) (l : Line) (r : List Line) → drop k ls ≡ l ∷ r → k < length ls
 index-small k ls l r e = omega (arith, sym (length-drop k ls) ∙ ap length e)
 
-pub number_small : (test : Line → Bool) (t : List ℕ) (n j : ℕ) (l : Line) → last_standing test 0 (lines_of n t) ≡ At j l → j + 1 ≤ n
+pub number_small : (test : Line → Bool) (t : List ℕ) (n j : ℕ) (l : Line) → last_standing test 0 (lines_of n t) ≡ Some (line_found j l) → j + 1 ≤ n
 number_small test t n j l e =
     let r = found-decides test (lines_of n t) (numbered j l) (ap named_in e) in
     let is : j + 1 ≡ suc r.index = r.number in
@@ -209,10 +209,10 @@ module _ (test : Line → Bool) where
           let y : k ≡ r.index = omega (arith, ltb-false k r.index p, ltb-false r.index k q) in
           absurd (apart (sym now ∙ (ap (λ (i : ℕ). stands_at test i (ls ++ ws)) y ∙ gone)))
 
-      go : (f : Found) → last_standing test 0 (ls ++ ws) ≡ f → number_in (named_in f) < d.number
-      go Nothing e = omega (arith, r.number)
-      go (At j l) e =
-          let x = found-decides test (ls ++ ws) (numbered j l) (ap named_in e) in
+      go : (f : Option Found) → last_standing test 0 (ls ++ ws) ≡ f → number_in (named_in f) < d.number
+      go None e = omega (arith, r.number)
+      go (Some fd) e =
+          let x = found-decides test (ls ++ ws) (numbered fd.index fd.line) (ap named_in e) in
           let k = x.index in
-          let n : j + 1 ≡ suc k = x.number in
-          omega (arith, r.number, before k (decides-stands test (ls ++ ws) (numbered j l) x) (ltb k r.index) refl (ltb r.index k) refl)
+          let n : fd.index + 1 ≡ suc k = x.number in
+          omega (arith, r.number, before k (decides-stands test (ls ++ ws) (numbered fd.index fd.line) x) (ltb k r.index) refl (ltb r.index k) refl)

@@ -1,11 +1,10 @@
 -- What request A11 asks of the answers, for any bytes and any number of lines. proofs/Answers.antt proves these statements; those over further calls are the model's.
-use Rattle.std.specs.Prelude.{ℕ, zero, suc, ◌<◌, ◌≡◌, Bool, true, false, ◌&&◌, List, [], ◌∷◌, ◌++◌, drop}
+use Rattle.refusal.specs.declared.Refusal.{Refusal}
+use Rattle.std.specs.Prelude.{ℕ, zero, suc, ◌<◌, ◌≡◌, Bool, true, false, ◌&&◌, List, [], ◌∷◌, ◌++◌, drop, Err, Ok, Result, None, Option, Some}
 use Rattle.refusal.specs.declared.Refusal.TheVariants as R
 use Rattle.calendar.specs.declared.Date.{Date}
 use Rattle.calendar.specs.Calendar.{is_date}
 use Rattle.ledger.specs.declared.Line.{Line}
-use Rattle.ledger.specs.declared.PurgeAnswer.{PurgeAnswer}
-use Rattle.ledger.specs.declared.PurgeAnswer.TheVariants as Q
 use Rattle.ledger.specs.Lines.{lines_of}
 use Rattle.ledger.specs.Standing.{keeps, corrects, stands, cancelled}
 use Rattle.ledger.specs.Ledger.{ledger_malformed, purge_answer}
@@ -13,20 +12,18 @@ use Rattle.listing.specs.Listing.{line_text, lines_text}
 use Rattle.why.specs.declared.Numbered.{Numbered}
 use Rattle.why.specs.declared.DayAnswer.{DayAnswer}
 use Rattle.why.specs.declared.DayAnswer.TheVariants as D
-use Rattle.why.specs.declared.PixelAnswer.{PixelAnswer}
-use Rattle.why.specs.declared.PixelAnswer.TheVariants as P
 use Rattle.why.specs.Why.{day_reason, pixel_reason}
 
 -- the line that an answer names, if it names one
-abbrev pub day_names : DayAnswer → List Numbered
-day_names (D.Allowed d) = d ∷ []
-day_names (D.NotYet d) = d ∷ []
-day_names (D.Refused r) = []
+abbrev pub day_names : Result DayAnswer Refusal → List Numbered
+day_names (Ok (D.Allowed d)) = d ∷ []
+day_names (Ok (D.NotYet d)) = d ∷ []
+day_names (Err r) = []
 
-abbrev pub pixel_names : PixelAnswer → List Numbered
-pixel_names (P.Corrected d) = d ∷ []
-pixel_names P.AsOpened = []
-pixel_names (P.Refused r) = []
+abbrev pub pixel_names : Result (Option Numbered) Refusal → List Numbered
+pixel_names (Ok (Some d)) = d ∷ []
+pixel_names (Ok None) = []
+pixel_names (Err r) = []
 
 -- its number, and 0 for none: of two answers the one with the smaller number names an earlier line, or none
 abbrev pub number_in : List Numbered → ℕ
@@ -73,21 +70,21 @@ PixelDecided =
 abbrev pub NoKeepExactly : Type 0
 NoKeepExactly =
     (t : List ℕ) (n : ℕ) (day : Date)
-    → (day_reason t n day ≡ D.Refused R.NoKeepLine → NoneStands keeps (lines_of n t))
-    × (ledger_malformed t n ≡ false → is_date day ≡ true → NoneStands keeps (lines_of n t) → day_reason t n day ≡ D.Refused R.NoKeepLine)
+    → (day_reason t n day ≡ Err R.NoKeepLine → NoneStands keeps (lines_of n t))
+    × (ledger_malformed t n ≡ false → is_date day ≡ true → NoneStands keeps (lines_of n t) → day_reason t n day ≡ Err R.NoKeepLine)
 
 -- as opened exactly where no correction of the pixel stands, in a ledger that is not malformed
 abbrev pub AsOpenedExactly : Type 0
 AsOpenedExactly =
     (t : List ℕ) (n pixel : ℕ)
-    → (pixel_reason t n pixel ≡ P.AsOpened → NoneStands (corrects pixel) (lines_of n t))
-    × (ledger_malformed t n ≡ false → NoneStands (corrects pixel) (lines_of n t) → pixel_reason t n pixel ≡ P.AsOpened)
+    → (pixel_reason t n pixel ≡ Ok None → NoneStands (corrects pixel) (lines_of n t))
+    × (ledger_malformed t n ≡ false → NoneStands (corrects pixel) (lines_of n t) → pixel_reason t n pixel ≡ Ok None)
 
 -- the purge question's answer in an answer for a day
-abbrev pub purge_in : DayAnswer → PurgeAnswer
-purge_in (D.Allowed d) = Q.Allowed
-purge_in (D.NotYet d) = Q.Refused R.NotYet
-purge_in (D.Refused r) = Q.Refused r
+abbrev pub purge_in : Result DayAnswer Refusal → Result (Unit {0}) Refusal
+purge_in (Ok (D.Allowed d)) = Ok tt
+purge_in (Ok (D.NotYet d)) = Err R.NotYet
+purge_in (Err r) = Err r
 
 -- both questions agree, whatever is asked
 abbrev pub DayIsPurge : Type 0

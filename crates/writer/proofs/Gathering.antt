@@ -1,8 +1,9 @@
 -- The loops that gather the elements that pass a test.
 -- Assumes nothing.
-use Rattle.std.proofs.Common.{◌≡◌, ℕ, ◌+◌, ◌<◌, ◌≤◌, Bool, true, false, List, [], ◌∷◌, ◌++◌, map, length, get_or, take, set, refl, ap, append-nil, add-zero, add-one, arith, length-set, take_all, take-suc-set}
+use Rattle.std.proofs.Common.{◌≡◌, ℕ, ◌+◌, ◌-◌, ◌<◌, ◌≤◌, Bool, leb, leb-true, leb-false, min, true, false, List, [], ◌∷◌, ◌++◌, map, length, get_or, take, set, refl, ap, append-nil, add-zero, add-one, arith, length-set, take_all, take-suc-set}
 use lib.Seq.{take-set-le}
 use Rattle.std.specs.Prelude.{if◌then◌else◌}
+use Rattle.std.specs.Int.{from_bool}
 use Rattle.lists.specs.Only.{only}
 use Rattle.lists.proofs.Only.{only-more, Counting, counting-start, counting_more, counting-done}
 use Rattle.layout.specs.declared.Width.TheVariants as W
@@ -11,6 +12,7 @@ use Rattle.layout.specs.declared.Form.{Form}
 use Rattle.header_text.specs.declared.Counts.{Counts}
 use Rattle.pixel_counts.specs.Counts.{counts_for, no_counts}
 use Rattle.writer.specs.Storing.{stored_value}
+use Rattle.writer.specs.Blocks.{less, capped}
 
 -- The loop that gathers.
 pub record Gathering (p : ℕ → Bool) (s out₀ out : List ℕ) (k i : ℕ) : Type 0 where
@@ -50,3 +52,24 @@ map-four (x ∷ xs) = ap (λ (l : List ℕ). x ∷ l) (map-four xs)
 pub plain-counts : (form : Form) (c : Counts) → form.width ≡ W.Four → form.underflow ≡ U.None → no_counts ≡ counts_for form c
 unfolding counts_for
 plain-counts form c w u = rw (w, u)
+
+-- less the baseline, with no branch
+pub less-is : (base v : ℕ) → v - base ≡ less base v
+less-is base v = go (leb v base) refl
+  where
+    go : (t : Bool) → leb v base ≡ t → v - base ≡ if◌then◌else◌ t 0 (v - base)
+    go true e = let h = leb-true v base e in omega arith
+    go false e = refl
+
+-- the smaller of a number and the limit
+pub capped-is : (limit v : ℕ) → min v limit ≡ capped limit v
+capped-is limit v = go (leb limit v) refl
+  where
+    go : (t : Bool) → leb limit v ≡ t → min v limit ≡ if◌then◌else◌ t limit v
+    go true e = let h = leb-true limit v e in omega arith
+    go false e = let h = leb-false limit v e in omega arith
+
+-- a test as a number
+pub one_le : (t : Bool) → from_bool t ≤ 1
+one_le true = omega arith
+one_le false = omega arith

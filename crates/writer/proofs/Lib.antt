@@ -4,3 +4,4 @@ pub mod Placing
 pub mod Pixel
 pub mod Runs
 pub mod Whole
+pub mod Handed

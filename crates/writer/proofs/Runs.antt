@@ -1,9 +1,10 @@
 -- Runs of pixels that are stored with no entry, and how their ends are found.
 -- Assumes nothing.
-use Rattle.std.proofs.Common.{◌≡◌, ℕ, ◌+◌, ◌-◌, ◌*◌, ◌%◌, ◌<◌, ◌≤◌, Bool, true, false, ◌||◌, ltb, List, [], ◌∷◌, map, length, get_or, take, drop, sym, refl, ap, ◌∙◌, add-zero, zero-mul, arith, length-take, take_all, drop-cons, take-take, drop-drop, ltb-false, ltb-true, le-ltb, lt-ltb}
+use Rattle.std.proofs.Common.{◌≡◌, ℕ, ◌+◌, ◌-◌, ◌*◌, ◌/◌, ◌%◌, ◌<◌, ◌≤◌, Bool, true, false, ◌||◌, ltb, List, [], ◌∷◌, map, length, get_or, take, drop, sym, refl, ap, ◌∙◌, add-zero, zero-mul, arith, length-take, length-drop, get_or-drop, take_all, drop-cons, take-take, drop-drop, ltb-false, ltb-true, le-ltb, lt-ltb}
 use lib.ListN.{length-map}
 use borrow.Author.Tests.{lt-leb}
 use Rattle.std.specs.Prelude.{if◌then◌else◌}
+use Rattle.std.specs.Simd.{first_chunks}
 use Rattle.lists.specs.Bytes.{over}
 use Rattle.lists.proofs.Parts.{drop-take}
 use Rattle.layout.specs.declared.Width.{Width}
@@ -22,6 +23,7 @@ use Rattle.writer.specs.declared.Range.{Range}
 use Rattle.lists.proofs.Only.{only-append, take_split}
 use Rattle.lists.proofs.Over.{over_none}
 use Rattle.writer.proofs.Placing.{stored-append, stored-nil, none}
+use Rattle.pixel_counts.proofs.Counting.{block_at}
 use Rattle.writer.proofs.Pixel.{Value, one-small, two-small, four-any}
 
 -- a difference modulo 2 ^ 32 is more than the span just where v is outside
@@ -91,11 +93,13 @@ pub record Looking (f : ℕ → Bool) (s : List ℕ) (found : Bool) (i : ℕ) : 
 pub looking-start : (f : ℕ → Bool) (s : List ℕ) → Looking f s false 0
 looking-start f s = record { upto = omega arith; none = λ e. without-start f s 0 (omega arith) }
 
-pub looking-hit : {f : ℕ → Bool} {s : List ℕ} {i : ℕ} → i < length s → Looking f s true (i + 1)
-looking-hit h = record { upto = omega arith; none = λ e. absurd (let z : ◌≡◌ {A = ℕ} 0 1 = cc in omega arith) }
-
-pub looking-miss : {f : ℕ → Bool} {s : List ℕ} {found : Bool} {i : ℕ} → Looking f s found i → i < length s → f (get_or s i 0) ≡ false → Looking f s found (i + 1)
-looking-miss a h e = record { upto = omega arith; none = λ g. without-one (a.none g) h e }
+pub looking-more : {f : ℕ → Bool} {s : List ℕ} {found : Bool} {i : ℕ} (t : Bool) → Looking f s found i → i < length s → t ≡ f (get_or s i 0) → Looking f s (found || t) (i + 1)
+looking-more {f} {s} {found} {i} t a h e = record { upto = omega arith; none = go found t refl refl }
+  where
+    go : (u v : Bool) → found ≡ u → t ≡ v → (u || v) ≡ false → Without f s 0 (i + 1)
+    go true v p q r = absurd (let z : ◌≡◌ {A = Bool} true false = r in let y : ◌≡◌ {A = ℕ} 0 1 = cc in omega arith)
+    go false true p q r = absurd (let z : ◌≡◌ {A = Bool} true false = r in let y : ◌≡◌ {A = ℕ} 0 1 = cc in omega arith)
+    go false false p q r = without-one (a.none p) h (sym e ∙ q)
 
 pub looking-done : {f : ℕ → Bool} {s : List ℕ} {found : Bool} {i : ℕ} → Looking f s found i → length s ≤ i → found ≡ false → Without f s 0 (length s)
 looking-done {f} {s} {found} {i} a h e = let n : i ≡ length s = omega (arith, a.upto) in rw n at (a.none e)
@@ -167,3 +171,20 @@ module _ (form : Form) (base : ℕ) (used : base ≡ used_base form.underflow ba
   run-put xs out out' at e p =
       let z : over at.four [] (over at.two [] (over at.under [] out)) ≡ out = over_none at.four _ ∙ over_none at.two _ ∙ over_none at.under out in
       p ∙ ap (over at.image (table_of (width_bytes form.width) (map (less_wrapped base) xs))) (sym z) ∙ ap (λ (s : Stored). put_block form s at out) (sym (run-plain xs e))
+
+-- an element of the list from p on
+pub element_from : (s : List ℕ) (p i : ℕ) → i < length (take (length s - p) (drop p s)) → (get_or (take (length s - p) (drop p s)) i 0 ≡ get_or s (p + i) 0) × (p + i < length s)
+element_from s p i h =
+    let t : take (length s - p) (drop p s) ≡ drop p s = take_all (length s - p) (drop p s) (simp length-drop (omega arith)) in
+    let l : i < length (drop p s) = rw t at h in
+    (rw t (get_or-drop p s i 0), omega (arith, length-drop p s))
+
+-- the i-th 16 elements from p on, and where they end
+pub block_from : (s : List ℕ) (p i : ℕ) (bs : List (List ℕ)) → p ≤ length s → bs ≡ first_chunks 16 (length (take (length s - p) (drop p s)) / 16) (take (length s - p) (drop p s)) → i < length (take (length s - p) (drop p s)) / 16
+    → (get_or bs i [] ≡ take (p + (i + 1) * 16 - (p + i * 16)) (drop (p + i * 16) s)) × (p + (i + 1) * 16 ≤ length s)
+block_from s p i bs k e h =
+    let t : take (length s - p) (drop p s) ≡ drop p s = take_all (length s - p) (drop p s) (simp length-drop (omega arith)) in
+    let b = block_at 16 i [] (take (length s - p) (drop p s)) bs e h in
+    let n : p + (i + 1) * 16 - (p + i * 16) ≡ (i + 1) * 16 - i * 16 = omega arith in
+    let l : i < length (drop p s) / 16 = rw t at h in
+    (b ∙ rw (t, n, drop-drop), omega (arith, length-drop p s))

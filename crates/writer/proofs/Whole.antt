@@ -1,12 +1,12 @@
 -- The whole frame: its counts, its length and its bytes.
 -- Assumes nothing.
-use Rattle.std.proofs.Common.{◌≡◌, ℕ, zero, suc, ◌+◌, ◌-◌, ◌*◌, ◌<◌, ◌≤◌, Bool, true, false, ltb, leb, List, [], ◌∷◌, ◌++◌, map, length, take, drop, sym, refl, ap, ◌∙◌, append_assoc, append-nil, mul-le-mul_right, mul-le-mul_left, arith, length-append, length-drop, drop_of_length-le, length-take, length-take-le, take_at, drop_at, le-leb, leb-false, leb-true}
+use Rattle.refusal.specs.declared.Refusal.{Refusal}
+use Rattle.std.proofs.Common.{◌≡◌, ℕ, ◌+◌, ◌-◌, ◌*◌, ◌<◌, ◌≤◌, Bool, true, false, leb, List, [], ◌∷◌, ◌++◌, map, length, take, drop, sym, refl, ap, ◌∙◌, append_assoc, append-nil, mul-le-mul_right, arith, length-append, length-drop, drop_of_length-le, length-take, length-take-le, drop_at, le-leb, leb-false, leb-true}
 use lib.ListN.{length-map, length-replicate}
 use borrow.Author.Tests.{lt-leb}
 use borrow.Rule.Slice.PartMut.{put_mid}
-use Rattle.std.specs.Prelude.{if◌then◌else◌}
+use Rattle.std.specs.Prelude.{if◌then◌else◌, Err, None, Ok, Result, Some, ℕ}
 use Rattle.lists.specs.Bytes.{zeros, held_bytes}
-use Rattle.lists.specs.Digits.{decimal}
 use Rattle.layout.specs.declared.Width.{Width}
 use Rattle.layout.specs.declared.Width.TheVariants as W
 use Rattle.layout.specs.declared.Underflow.{Underflow}
@@ -18,9 +18,6 @@ use Rattle.table.specs.Writing.{table_of, padded_table}
 use Rattle.table.proofs.Storing.{length-table}
 use Rattle.expand.proofs.Extents.{table-ge}
 use Rattle.expand.specs.Steps.{Stored}
-use Rattle.header_lines.specs.declared.LineId.{LineId}
-use Rattle.header_lines.specs.declared.LineId.TheVariants as I
-use Rattle.header_lines.specs.Lines.{position_of}
 use Rattle.writer.specs.Storing.{lowered, lowered_all, under_entries, two_entries, four_entries, at_most65535, stored_value, stored_for}
 use Rattle.pixel_counts.specs.Counts.{is_underflow, counts_of, counts_for, under_count, two_count, four_count}
 use Rattle.lists.specs.Only.{only}
@@ -35,15 +32,11 @@ use Rattle.layout.specs.declared.Tables.{Tables}
 use Rattle.layout.specs.declared.Tables.TheVariants as T
 use Rattle.layout.specs.declared.Header.{Header}
 use Rattle.layout.specs.Layout.{pixel_count}
-use Rattle.header.specs.declared.HeaderAnswer.TheVariants as A
-use Rattle.header.specs.declared.ValueAnswer.{ValueAnswer}
-use Rattle.header.specs.declared.ValueAnswer.TheVariants as VA
 use Rattle.header.specs.Body.{baseline_of}
 use Rattle.header.specs.Header.{header_of}
 use Rattle.header.proofs.Accepted.{BaselineGood, TablesGood, accepted-bounds}
 use Rattle.writer.specs.Writer as M
 use Rattle.writer.specs.Writer.{line_base, base_for, base_answer, underflow_too_large}
-use Rattle.writer.specs.declared.BaseAnswer.TheVariants as B
 use Rattle.header_text.proofs.Lines.{length-relined}
 use Rattle.writer.proofs.Placing.{lowered_is}
 
@@ -210,24 +203,24 @@ pub large_is : (form : Form) (base : ℕ) (vs : List ℕ) (r t : Bool) → r ≡
 unfolding stored_for
 large_is form base vs r t e q = sym e ∙ q
 
-pub base-given : (x : M.Base) (b : ℕ) → base_answer x ≡ B.Given b → x ≡ M.base b
+pub base-given : (x : M.Base) (b : ℕ) → base_answer x ≡ Some b → x ≡ M.base b
 base-given (M.base n) b e = let q : n ≡ b = cc in rw q
 base-given M.no_base b e = absurd (let z : ◌≡◌ {A = ℕ} 0 1 = cc in omega arith)
 
-pub base-missing : (x : M.Base) → base_answer x ≡ B.Missing → x ≡ M.no_base
+pub base-missing : (x : M.Base) → base_answer x ≡ None → x ≡ M.no_base
 base-missing (M.base n) e = absurd (let z : ◌≡◌ {A = ℕ} 0 1 = cc in omega arith)
 base-missing M.no_base e = refl
 
 same_base : {a b : ℕ} → M.base a ≡ M.base b → a ≡ b
 same_base e = cc
 
-line_low : (s : ValueAnswer) (b : ℕ) → line_base s ≡ M.base b → b ≤ 65535
-line_low (VA.Read n) b e = go (leb n 65535) refl e
+line_low : (s : Result ℕ Refusal) (b : ℕ) → line_base s ≡ M.base b → b ≤ 65535
+line_low (Ok n) b e = go (leb n 65535) refl e
   where
     go : (t : Bool) → leb n 65535 ≡ t → if◌then◌else◌ t (M.base n) M.no_base ≡ M.base b → b ≤ 65535
     go true p q = let l = leb-true n 65535 p in omega (arith, same_base q)
     go false p q = absurd (let z : ◌≡◌ {A = ℕ} 0 1 = cc in omega arith)
-line_low (VA.Refused r) b e = absurd (let z : ◌≡◌ {A = ℕ} 0 1 = cc in omega arith)
+line_low (Err r) b e = absurd (let z : ◌≡◌ {A = ℕ} 0 1 = cc in omega arith)
 
 pub base-good : (header : List ℕ) (h : Underflows) (u : Underflow) (b : ℕ) → base_for header h u ≡ M.base b → given_baseline h ≤ 65535 → (b ≤ 65535) × (b ≡ used_base u b)
 base-good header h U.None b e l = (omega (arith, same_base e), sym (same_base e))
@@ -246,7 +239,7 @@ tables-low (T.Format100 t) g = under_low t.underflows g
     under_low (H.Counted e n b) g = g
 
 -- an accepted header and its pixels are of bounded size
-pub sized_of : (given pixels : List ℕ) (h : Header) (n start : ℕ) → header_of given ≡ A.Accepted h → n ≡ pixel_count h.image → start ≡ h.image.start → n ≤ length pixels
+pub sized_of : (given pixels : List ℕ) (h : Header) (n start : ℕ) → header_of given ≡ Ok h → n ≡ pixel_count h.image → start ≡ h.image.start → n ≤ length pixels
     → Sized (take start given) (take n pixels) (tables_baseline h.tables)
 sized_of given pixels h n start e en es l =
     let k = accepted-bounds given h e in

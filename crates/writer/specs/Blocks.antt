@@ -1,6 +1,6 @@
 -- What the private functions say of themselves: pixels lowered and capped, and bytes put over a buffer. No public contract cites this file.
-use Rattle.std.specs.Prelude.{◌≡◌, ℕ, ◌+◌, ◌-◌, ◌*◌, ◌≤◌, Bool, true, false, ◌||◌, List, [], map, length, take, drop, nat_le, nat_lt, if◌then◌else◌}
-use Rattle.lists.specs.Bytes.{over}
+use Rattle.std.specs.Prelude.{◌≡◌, ℕ, ◌+◌, ◌-◌, ◌*◌, ◌≤◌, Bool, true, false, ◌||◌, List, [], ◌++◌, map, length, take, drop, nat_le, nat_lt, if◌then◌else◌}
+use Rattle.lists.specs.Bytes.{zeros, over}
 use Rattle.layout.specs.declared.Width.{Width}
 use Rattle.layout.specs.declared.Width.TheVariants as W
 use Rattle.layout.specs.declared.Underflow.{Underflow}
@@ -14,13 +14,13 @@ use Rattle.layout.specs.Form.{width_bytes, underflow_bytes}
 use Rattle.layout.specs.Layout.{table_bytes}
 use Rattle.table.specs.Writing.{table_of}
 use Rattle.expand.specs.Steps.{Stored}
-use Rattle.writer.specs.Storing.{stored_value, two_entries, four_entries}
-use Rattle.pixel_counts.specs.Counts.{is_underflow}
+use Rattle.writer.specs.Storing.{stored_value, two_entries, four_entries, stored_for}
 use Rattle.lists.specs.Only.{only}
-use Rattle.writer.specs.Frame.{stored_counts}
+use Rattle.writer.specs.Frame.{stored_counts, body_bytes, frame_length}
 use Rattle.header_text.specs.declared.Counts.{Counts}
 use Rattle.writer.specs.declared.Places.{Places}
 use Rattle.writer.specs.declared.Range.{Range}
+use Rattle.writer.specs.declared.Storage.{Storage}
 
 -- a pixel less the baseline, 0 where it underflows
 abbrev pub less : ℕ → ℕ → ℕ
@@ -126,6 +126,19 @@ places_by start n form c = record {
 
 abbrev pub places_for : ℕ → Form → Stored → Places
 places_for start form s = places_by start (length s.image) form (stored_counts s)
+
+-- all pixels can be stored: the places are those of the parts, and the buffer holds the frame and is zero behind the image
+pub record Ready (k : Storage) (pixels out : List ℕ) (at : Places) : Type 0 where
+  pub used : k.base ≡ used_base k.form.underflow k.base
+  pub places : at ≡ places_for at.image k.form (stored_for k.form k.base pixels)
+  pub whole : frame_length at.image k.form (stored_for k.form k.base pixels) ≤ length out
+  pub clear : drop (at.image + length (stored_for k.form k.base pixels).image * width_bytes k.form.width) out ≡ zeros (length out - (at.image + length (stored_for k.form k.base pixels).image * width_bytes k.form.width))
+  pub low : k.base ≤ 65535
+
+-- the frame's body from the image's place on, and zeros behind it
+abbrev pub with_body : Storage → List ℕ → List ℕ → Places → List ℕ
+with_body k pixels out at =
+    take at.image out ++ (body_bytes k.form (stored_for k.form k.base pixels) ++ zeros (length out - frame_length at.image k.form (stored_for k.form k.base pixels)))
 
 -- the baseline that a header states, 0 where it states none
 abbrev pub given_baseline : Underflows → ℕ

@@ -1,48 +1,25 @@
 // Writing a frame of FORMAT 100.
 #![tactic(auto)]
 
-ghost use Rattle.std.specs.Prelude.{◌≡◌, ◌+◌, ◌-◌, ◌*◌, ◌^◌, ◌<◌, ◌≤◌, true, false, [], ◌∷◌, ◌++◌, map, length, take, drop, nat_le, if◌then◌else◌};
+ghost use Rattle.std.specs.Prelude.{◌≡◌, ℕ, ◌+◌, ◌-◌, ◌*◌, ◌^◌, ◌<◌, ◌≤◌, Bool, true, false, [], ◌∷◌, ◌++◌, map, length, take, drop, nat_le, if◌then◌else◌, Ok};
 ghost use Rattle.lists.specs.Bytes.{zeros, held_bytes, over};
 ghost use Rattle.layout.specs.Layout.{table_bytes};
 ghost use Rattle.layout.specs.Form.{width_bytes, entry_bytes, underflow_bytes};
 ghost use Rattle.layout.specs.declared.Width.TheVariants.{One, Two, Four};
 ghost use Rattle.table.specs.Writing.{table_of, less_wrapped};
 ghost use Rattle.writer.specs.Storing.{under_entries, at_most65535, stored_for};
-ghost use Rattle.pixel_counts.specs.Counts.{is_underflow, counts_of, counts_for};
+ghost use Rattle.pixel_counts.specs.Counts.{is_underflow, counts_of, counts_for, Answers};
 ghost use Rattle.lists.specs.Only.{only};
 ghost use Rattle.header_text.specs.Text.{relined};
 ghost use Rattle.writer.specs.Frame.{body_bytes, frame_length, frame_bytes, stored_counts};
-ghost use Rattle.writer.specs.Blocks.{less, capped, used_base, is_plain, Room, ValuesRoom, put_block, put_values, places_after, places_past, places_by, places_for, given_baseline, tables_baseline, Sized, Without, lowest_plain, highest_plain, plain_range, is_outside};
+ghost use Rattle.writer.specs.Blocks.{less, capped, used_base, is_plain, Room, ValuesRoom, put_block, put_values, places_after, places_past, places_by, places_for, given_baseline, tables_baseline, Sized, Without, lowest_plain, highest_plain, plain_range, is_outside, Ready, with_body};
 ghost use Rattle.writer.specs.Writer.{underflow_too_large, base_for, line_base, base_answer, made_of, made_with, made_as, made_from, answer_of, output_of, write_answer, write_bytes};
 ghost use Rattle.header.specs.Body.{baseline_of};
 ghost use Rattle.header.specs.Header.{header_of};
-ghost use Rattle.header.specs.declared.HeaderAnswer.TheVariants.{Accepted};
 
-use header::{HeaderAnswer, ValueAnswer};
 use header_text::Counts;
 use layout::{EntryWidth, Form, Header, Tables, Underflow, Underflows, Width};
 use refusal::Refusal;
-
-// The form asked for, or that no listed form was.
-#[derive(Clone, Copy)]
-pub enum AskedForm {
-    Listed(Form),
-    Unlisted,
-}
-
-// The bytes of the frame written, or why there is none.
-#[derive(Clone, Copy)]
-pub enum WriteAnswer {
-    Written { length: u64 },
-    Refused(Refusal),
-}
-
-// A baseline, or none that serves.
-#[derive(Clone, Copy)]
-pub enum BaseAnswer {
-    Given(u32),
-    Missing,
-}
 
 // The pixels from low to low + span.
 #[derive(Clone, Copy)]
@@ -60,21 +37,27 @@ struct Places {
     four: usize,
 }
 
-// The numbers that are at most limit, at the front of out. Each is stored, and the place moves on behind those that stay.
+// The numbers that pass, at the front of out. Each is stored, and the place moves on behind those that stay.
+fn gather<F: Fn(u32) -> bool>(s: &[u32], passes: F, out: &mut [u32]) -> usize
+    requires room { length s.now ≤ length out.old }
+    requires callable { F.IsAlwaysCallable passes }
+    ensures { (p : ℕ → Bool) → Answers p (F.post passes) → (result ≡ length (only p s.now)) × (take result out.new ≡ only p s.now) }
+{
+    let mut k: usize = 0;
+    for &v in s {
+        out[k] = v;
+        k += usize::from(passes(v));
+    }
+    k
+}
+
+// The numbers that are at most limit, at the front of out.
 fn gather_at_most(s: &[u32], limit: u32, out: &mut [u32]) -> usize
     requires { length s.now ≤ length out.old }
     ensures value { result ≡ length (only (is_underflow limit) s.now) }
     ensures out_after { take result out.new ≡ only (is_underflow limit) s.now }
 {
-    let mut k: usize = 0;
-    let mut i = 0;
-    while i < s.len() {
-        let v = s[i];
-        out[k] = v;
-        k += pixel_counts::one_if_at_most(v, limit) as usize;
-        i += 1;
-    }
-    k
+    gather(s, |v| v <= limit, out)
 }
 
 // The numbers that are limit or more, at the front of out.
@@ -83,21 +66,7 @@ fn gather_from(s: &[u32], limit: u32, out: &mut [u32]) -> usize
     ensures value { result ≡ length (only (nat_le limit) s.now) }
     ensures out_after { take result out.new ≡ only (nat_le limit) s.now }
 {
-    let mut k: usize = 0;
-    let mut i = 0;
-    while i < s.len() {
-        let v = s[i];
-        out[k] = v;
-        k += pixel_counts::one_if_from(v, limit) as usize;
-        i += 1;
-    }
-    k
-}
-
-fn less_base(v: u32, base: u32) -> u32
-    ensures { result ≡ less base v }
-{
-    if v <= base { 0 } else { v - base }
+    gather(s, |v| limit <= v, out)
 }
 
 // The pixels less the baseline. The answer: how many underflow.
@@ -107,67 +76,34 @@ fn lower(s: &[u32], base: u32, out: &mut [u32]) -> u32
     ensures out_after { out.new ≡ map (less base) s.now }
 {
     let mut k: u32 = 0;
-    let mut i = 0;
-    while i < s.len() {
-        let v = s[i];
-        out[i] = less_base(v, base);
-        k += pixel_counts::one_if_at_most(v, base);
-        i += 1;
+    for (i, &v) in s.iter().enumerate() {
+        out[i] = v.saturating_sub(base);
+        k += u32::from(v <= base);
     }
     k
-}
-
-fn at_most(v: u32, limit: u32) -> u32
-    ensures { result ≡ capped limit v }
-{
-    if limit <= v { limit } else { v }
 }
 
 // Every number at most limit.
 fn cap(s: &mut [u32], limit: u32)
     ensures { s.new ≡ map (capped limit) s.old }
 {
-    let mut i = 0;
-    while i < s.len() {
-        s[i] = at_most(s[i], limit);
-        i += 1;
+    for v in s.iter_mut() {
+        *v = (*v).min(limit);
     }
 }
 
-// The numbers at most limit each. The answer: how many are limit or more.
+// The numbers at most limit each. The answer: how many are limit or more. It is not one function with lower: that would take two closures.
 fn cap_into(s: &[u32], limit: u32, out: &mut [u32]) -> u32
     requires { (length s.now ≡ length out.old) × (length s.now < 2 ^ 32) }
     ensures value { result ≡ length (only (nat_le limit) s.now) }
     ensures out_after { out.new ≡ map (capped limit) s.now }
 {
     let mut k: u32 = 0;
-    let mut i = 0;
-    while i < s.len() {
-        let v = s[i];
-        out[i] = at_most(v, limit);
-        k += pixel_counts::one_if_from(v, limit);
-        i += 1;
+    for (i, &v) in s.iter().enumerate() {
+        out[i] = v.min(limit);
+        k += u32::from(limit <= v);
     }
     k
-}
-
-fn copy(s: &[u8], out: &mut [u8])
-    requires { length s.now ≡ length out.old }
-    ensures { out.new ≡ s.now }
-{
-    let mut i = 0;
-    while i < s.len() {
-        out[i] = s[i];
-        i += 1;
-    }
-}
-
-// The end of the block that starts at p: a block has `size` pixels, and the last one what is left.
-fn block_end(p: usize, n: usize, size: usize) -> usize
-    requires { (p < n) × (0 < size) }
-    ensures { (p < result) × (result ≤ n) × (result ≤ p + size) }
-{
-    if size < n - p { p + size } else { n }
 }
 
 // The values as entries in the bytes of out from `at` on.
@@ -180,17 +116,18 @@ fn put(values: &[u32], w: Width, out: &mut [u8], at: usize)
     table::store(values, w, &mut out[at..e]);
 }
 
-// The k underflow entries of a block, gathered in `found`. The answer: where the next go.
+// The k underflow entries of a block, gathered in `found`. The answer: where the next go. The three functions for a block's entries stay
+// apart: each writes its width at the call, so that each has a loop of its own, and the two-byte entries are capped between.
 fn put_underflows(
     block: &[u32],
     e: EntryWidth,
     base: u32,
     k: u32,
-    found: &mut [u32],
+    found: &mut [u32; 64],
     out: &mut [u8],
     at: usize,
 ) -> usize
-    requires { (length block.now ≤ 64) × (length found.old ≡ 64) × (k ≡ length (only (is_underflow base) block.now)) × (at + length (only (is_underflow base) block.now) * entry_bytes e ≤ length out.old) }
+    requires { (length block.now ≤ 64) × (k ≡ length (only (is_underflow base) block.now)) × (at + length (only (is_underflow base) block.now) * entry_bytes e ≤ length out.old) }
     ensures value { result ≡ at + length (only (is_underflow base) block.now) * entry_bytes e }
     ensures out_after { out.new ≡ over at (table_of (entry_bytes e) (only (is_underflow base) block.now)) out.old }
 {
@@ -220,8 +157,8 @@ fn put_capped(values: &mut [u32], out: &mut [u8], at: usize)
 }
 
 // The k two-byte entries of a block of width 1.
-fn put_two_byte(low: &[u32], k: u32, found: &mut [u32], out: &mut [u8], at: usize) -> usize
-    requires { (length low.now ≤ 64) × (length found.old ≡ 64) × (k ≡ length (only (nat_le 255) low.now)) × (at + length (map at_most65535 (only (nat_le 255) low.now)) * 2 ≤ length out.old) }
+fn put_two_byte(low: &[u32], k: u32, found: &mut [u32; 64], out: &mut [u8], at: usize) -> usize
+    requires { (length low.now ≤ 64) × (k ≡ length (only (nat_le 255) low.now)) × (at + length (map at_most65535 (only (nat_le 255) low.now)) * 2 ≤ length out.old) }
     ensures value { result ≡ at + length (map at_most65535 (only (nat_le 255) low.now)) * 2 }
     ensures out_after { out.new ≡ over at (table_of 2 (map at_most65535 (only (nat_le 255) low.now))) out.old }
 {
@@ -234,8 +171,8 @@ fn put_two_byte(low: &[u32], k: u32, found: &mut [u32], out: &mut [u8], at: usiz
 }
 
 // The k four-byte entries of a block of width 1 or 2.
-fn put_four_byte(low: &[u32], k: u32, found: &mut [u32], out: &mut [u8], at: usize) -> usize
-    requires { (length low.now ≤ 64) × (length found.old ≡ 64) × (k ≡ length (only (nat_le 65535) low.now)) × (at + length (only (nat_le 65535) low.now) * 4 ≤ length out.old) }
+fn put_four_byte(low: &[u32], k: u32, found: &mut [u32; 64], out: &mut [u8], at: usize) -> usize
+    requires { (length low.now ≤ 64) × (k ≡ length (only (nat_le 65535) low.now)) × (at + length (only (nat_le 65535) low.now) * 4 ≤ length out.old) }
     ensures value { result ≡ at + length (only (nat_le 65535) low.now) * 4 }
     ensures out_after { out.new ≡ over at (table_of 4 (only (nat_le 65535) low.now)) out.old }
 {
@@ -248,12 +185,19 @@ fn put_four_byte(low: &[u32], k: u32, found: &mut [u32], out: &mut [u8], at: usi
 }
 
 // The values of a block in width 1, with their entries. `caps` and `found` are room for its numbers.
-fn store_one(low: &[u32], caps: &mut [u32], found: &mut [u32], out: &mut [u8], at: Places) -> Places
-    requires { (length low.now ≤ 64) × (length low.now ≡ length caps.old) × (length found.old ≡ 64) × ValuesRoom One low.now at (length out.old) }
+fn store_one(
+    low: &[u32],
+    caps: &mut [u32; 64],
+    found: &mut [u32; 64],
+    out: &mut [u8],
+    at: Places,
+) -> Places
+    requires { (length low.now ≤ 64) × ValuesRoom One low.now at (length out.old) }
     ensures value { result ≡ places_past One low.now at }
     ensures out_after { out.new ≡ put_values One low.now at out.old }
 {
     let image = at.image + low.len();
+    let caps = &mut caps[..low.len()];
     let k = cap_into(low, 255, caps);
     let two = put_two_byte(low, k, found, out, at.two);
     let large = pixel_counts::count_above(low, k, 65535);
@@ -261,28 +205,30 @@ fn store_one(low: &[u32], caps: &mut [u32], found: &mut [u32], out: &mut [u8], a
     put(caps, Width::One, out, at.image);
     Places {
         image,
-        under: at.under,
         two,
         four,
+        ..at
     }
 }
 
 // The same in width 2.
-fn store_two(low: &[u32], caps: &mut [u32], found: &mut [u32], out: &mut [u8], at: Places) -> Places
-    requires { (length low.now ≤ 64) × (length low.now ≡ length caps.old) × (length found.old ≡ 64) × ValuesRoom Two low.now at (length out.old) }
+fn store_two(
+    low: &[u32],
+    caps: &mut [u32; 64],
+    found: &mut [u32; 64],
+    out: &mut [u8],
+    at: Places,
+) -> Places
+    requires { (length low.now ≤ 64) × ValuesRoom Two low.now at (length out.old) }
     ensures value { result ≡ places_past Two low.now at }
     ensures out_after { out.new ≡ put_values Two low.now at out.old }
 {
     let image = at.image + low.len() * 2;
+    let caps = &mut caps[..low.len()];
     let k = cap_into(low, 65535, caps);
     let four = put_four_byte(low, k, found, out, at.four);
     put(caps, Width::Two, out, at.image);
-    Places {
-        image,
-        under: at.under,
-        two: at.two,
-        four,
-    }
+    Places { image, four, ..at }
 }
 
 // The same in width 4, where no value has an entry.
@@ -293,24 +239,19 @@ fn store_four(low: &[u32], out: &mut [u8], at: Places) -> Places
 {
     let image = at.image + low.len() * 4;
     put(low, Width::Four, out, at.image);
-    Places {
-        image,
-        under: at.under,
-        two: at.two,
-        four: at.four,
-    }
+    Places { image, ..at }
 }
 
 // The values of a block, each with a loop of its own width.
 fn store_values(
     low: &[u32],
     w: Width,
-    caps: &mut [u32],
-    found: &mut [u32],
+    caps: &mut [u32; 64],
+    found: &mut [u32; 64],
     out: &mut [u8],
     at: Places,
 ) -> Places
-    requires { (length low.now ≤ 64) × (length low.now ≡ length caps.old) × (length found.old ≡ 64) × ValuesRoom w low.now at (length out.old) }
+    requires { (length low.now ≤ 64) × ValuesRoom w low.now at (length out.old) }
     ensures value { result ≡ places_past w low.now at }
     ensures out_after { out.new ≡ put_values w low.now at out.old }
 {
@@ -318,70 +259,6 @@ fn store_values(
         Width::One => store_one(low, caps, found, out, at),
         Width::Two => store_two(low, caps, found, out, at),
         Width::Four => store_four(low, out, at),
-    }
-}
-
-// A block: its entries and its stored values, each at its place. `low`, `caps` and `found` are room for its numbers.
-fn store_block(
-    block: &[u32],
-    form: Form,
-    base: u32,
-    low: &mut [u32],
-    caps: &mut [u32],
-    found: &mut [u32],
-    out: &mut [u8],
-    at: Places,
-) -> Places
-    requires { (length block.now ≤ 64) × (length block.now ≡ length low.old) × (length block.now ≡ length caps.old) × (length found.old ≡ 64) × (base ≡ used_base form.underflow base) × Room form (stored_for form base block.now) at (length out.old) }
-    ensures value { result ≡ places_after form (stored_for form base block.now) at }
-    ensures out_after { out.new ≡ put_block form (stored_for form base block.now) at out.old }
-{
-    let u = form.underflow;
-    let w = form.width;
-    let Underflow::Subtracted(e) = u else {
-        return store_values(block, w, caps, found, out, at);
-    };
-    let k = lower(block, base, low);
-    let under = put_underflows(block, e, base, k, found, out, at.under);
-    let t = Places {
-        image: at.image,
-        under,
-        two: at.two,
-        four: at.four,
-    };
-    store_values(low, w, caps, found, out, t)
-}
-
-// All blocks, in a buffer that is zero behind the image.
-fn store_blocks(
-    pixels: &[u32],
-    form: Form,
-    base: u32,
-    low: &mut [u32],
-    caps: &mut [u32],
-    found: &mut [u32],
-    out: &mut [u8],
-    at: Places,
-)
-    requires { (length low.old ≡ 64) × (length caps.old ≡ 64) × (length found.old ≡ 64) × (base ≡ used_base form.underflow base) × (at ≡ places_for at.image form (stored_for form base pixels.now)) × (frame_length at.image form (stored_for form base pixels.now) ≤ length out.old) × (drop (at.image + length (stored_for form base pixels.now).image * width_bytes form.width) out.old ≡ zeros (length out.old - (at.image + length (stored_for form base pixels.now).image * width_bytes form.width))) }
-    ensures { out.new ≡ take at.image out.old ++ (body_bytes form (stored_for form base pixels.now) ++ zeros (length out.old - frame_length at.image form (stored_for form base pixels.now))) }
-{
-    let mut t = at;
-    let mut p = 0;
-    while p < pixels.len() {
-        let e = block_end(p, pixels.len(), 64);
-        let n = e - p;
-        t = store_block(
-            &pixels[p..e],
-            form,
-            base,
-            &mut low[..n],
-            &mut caps[..n],
-            found,
-            out,
-            t,
-        );
-        p = e;
     }
 }
 
@@ -408,26 +285,12 @@ fn highest_plain(w: Width, base: u32) -> u32
     }
 }
 
-// The pixels that a form stores with no entry.
-fn plain_range(form: Form, base: u32) -> Range
-    requires { base ≤ 65535 }
-    ensures { result ≡ plain_range form base }
-{
-    let w = form.width;
-    let u = form.underflow;
-    let low = lowest_plain(u, base);
-    Range {
-        low,
-        span: highest_plain(w, base) - low,
-    }
-}
-
 // One compare: a pixel below the range wraps to more than its span.
 fn is_outside(v: u32, k: Range) -> bool
     requires { k.low + k.span < 2 ^ 32 }
     ensures { result ≡ is_outside k v }
 {
-    k.span < std::num::wrapping_sub_u32(v, k.low)
+    k.span < v.wrapping_sub(k.low)
 }
 
 // Whether some pixel is outside. Every one is looked at, so that the loop is made of vector instructions.
@@ -436,12 +299,8 @@ fn any_outside(s: &[u32], k: Range) -> bool
     ensures { result ≡ false → Without (is_outside k) s.now 0 (length s.now) }
 {
     let mut found = false;
-    let mut i = 0;
-    while i < s.len() {
-        if is_outside(s[i], k) {
-            found = true;
-        }
-        i += 1;
+    for v in s {
+        found |= is_outside(*v, k);
     }
     found
 }
@@ -451,14 +310,12 @@ fn first_outside(s: &[u32], p: usize, k: Range) -> usize
     requires { (p ≤ length s.now) × (k.low + k.span < 2 ^ 32) }
     ensures { Without (is_outside k) s.now p result }
 {
-    let mut q = p;
-    while q < s.len() {
-        if is_outside(s[q], k) {
-            break;
+    for (i, v) in s[p..].iter().enumerate() {
+        if is_outside(*v, k) {
+            return p + i;
         }
-        q += 1;
     }
-    q
+    s.len()
 }
 
 // The same, 16 pixels at a time as long as none of them is.
@@ -466,19 +323,16 @@ fn next_outside(s: &[u32], p: usize, k: Range) -> usize
     requires { (p ≤ length s.now) × (k.low + k.span < 2 ^ 32) }
     ensures { Without (is_outside k) s.now p result }
 {
-    let n = s.len();
-    let mut q = p;
-    while 16 <= n - q {
-        let e = q + 16;
-        if any_outside(&s[q..e], k) {
-            break;
+    let (blocks, _) = s[p..].as_chunks::<16>();
+    for (i, block) in blocks.iter().enumerate() {
+        if any_outside(block, k) {
+            return first_outside(s, p + i * 16, k);
         }
-        q = e;
     }
-    first_outside(s, q, k)
+    first_outside(s, p + blocks.len() * 16, k)
 }
 
-// A run less the baseline, with a loop for each width.
+// A run less the baseline. A width written at each call, so that each has a loop of its own.
 fn put_run(run: &[u32], w: Width, base: u32, out: &mut [u8], at: usize)
     requires { at + length run.now * width_bytes w ≤ length out.old }
     ensures { out.new ≡ over at (table_of (width_bytes w) (map (less_wrapped base) run.now)) out.old }
@@ -494,23 +348,6 @@ fn put_run(run: &[u32], w: Width, base: u32, out: &mut [u8], at: usize)
         Width::Four => {
             table::store_less(run, base, Width::Four, &mut out[at..e]);
         }
-    }
-}
-
-// A run of pixels that need no entry.
-fn put_plain(run: &[u32], form: Form, base: u32, out: &mut [u8], at: Places) -> Places
-    requires { (only (is_outside (plain_range form base)) run.now ≡ []) × (base ≡ used_base form.underflow base) × (base ≤ 65535) × Room form (stored_for form base run.now) at (length out.old) }
-    ensures value { result ≡ places_after form (stored_for form base run.now) at }
-    ensures out_after { out.new ≡ put_block form (stored_for form base run.now) at out.old }
-{
-    let w = form.width;
-    let image = at.image + run.len() * layout::width_bytes(w);
-    put_run(run, w, base, out, at.image);
-    Places {
-        image,
-        under: at.under,
-        two: at.two,
-        four: at.four,
     }
 }
 
@@ -532,7 +369,7 @@ fn put_underflow(v: u32, e: EntryWidth, out: &mut [u8], at: usize) -> usize
     }
 }
 
-// A value in width 1, with its entries.
+// A value in width 1, with its entries. The widths stay apart: they have different limits and different entries.
 fn put_value1(x: u32, out: &mut [u8], at: Places) -> Places
     requires { ValuesRoom One (x ∷ []) at (length out.old) }
     ensures value { result ≡ places_past One (x ∷ []) at }
@@ -541,31 +378,21 @@ fn put_value1(x: u32, out: &mut [u8], at: Places) -> Places
     let image = at.image + 1;
     if x < 255 {
         table::put_entry(out, Width::One, at.image, x);
-        return Places {
-            image,
-            under: at.under,
-            two: at.two,
-            four: at.four,
-        };
+        return Places { image, ..at };
     }
-    table::put_entry(out, Width::Two, at.two, at_most(x, 65535));
+    table::put_entry(out, Width::Two, at.two, x.min(65535));
     let two = at.two + 2;
     if x < 65535 {
         table::put_entry(out, Width::One, at.image, 255);
-        return Places {
-            image,
-            under: at.under,
-            two,
-            four: at.four,
-        };
+        return Places { image, two, ..at };
     }
     table::put_entry(out, Width::Four, at.four, x);
     table::put_entry(out, Width::One, at.image, 255);
     Places {
         image,
-        under: at.under,
         two,
         four: at.four + 4,
+        ..at
     }
 }
 
@@ -578,20 +405,14 @@ fn put_value2(x: u32, out: &mut [u8], at: Places) -> Places
     let image = at.image + 2;
     if x < 65535 {
         table::put_entry(out, Width::Two, at.image, x);
-        return Places {
-            image,
-            under: at.under,
-            two: at.two,
-            four: at.four,
-        };
+        return Places { image, ..at };
     }
     table::put_entry(out, Width::Four, at.four, x);
     table::put_entry(out, Width::Two, at.image, 65535);
     Places {
         image,
-        under: at.under,
-        two: at.two,
         four: at.four + 4,
+        ..at
     }
 }
 
@@ -604,9 +425,7 @@ fn put_value4(x: u32, out: &mut [u8], at: Places) -> Places
     table::put_entry(out, Width::Four, at.image, x);
     Places {
         image: at.image + 4,
-        under: at.under,
-        two: at.two,
-        four: at.four,
+        ..at
     }
 }
 
@@ -623,57 +442,12 @@ fn put_value(x: u32, w: Width, out: &mut [u8], at: Places) -> Places
     }
 }
 
-// One pixel: its entries and its stored value.
-fn put_pixel(v: u32, form: Form, base: u32, out: &mut [u8], at: Places) -> Places
-    requires { (base ≡ used_base form.underflow base) × Room form (stored_for form base (v ∷ [])) at (length out.old) }
-    ensures value { result ≡ places_after form (stored_for form base (v ∷ [])) at }
-    ensures out_after { out.new ≡ put_block form (stored_for form base (v ∷ [])) at out.old }
-{
-    let u = form.underflow;
-    let w = form.width;
-    let Underflow::Subtracted(e) = u else {
-        return put_value(v, w, out, at);
-    };
-    if base < v {
-        return put_value(v - base, w, out, at);
-    }
-    let under = put_underflow(v, e, out, at.under);
-    let t = Places {
-        image: at.image,
-        under,
-        two: at.two,
-        four: at.four,
-    };
-    put_value(0, w, out, t)
-}
-
 // The end of the pixels that are looked at for a run from p on: 512 of them, or what is left.
 fn run_limit(p: usize, n: usize) -> usize
     requires { p ≤ n }
     ensures { (p ≤ result) × (result ≤ n) }
 {
     if 512 < n - p { p + 512 } else { n }
-}
-
-// All pixels: runs with no entry, and each other pixel by itself. A run ends after 512 pixels at the latest, so that it is still in the cache when it is stored.
-fn store_runs(pixels: &[u32], form: Form, base: u32, out: &mut [u8], at: Places)
-    requires { (base ≡ used_base form.underflow base) × (at ≡ places_for at.image form (stored_for form base pixels.now)) × (frame_length at.image form (stored_for form base pixels.now) ≤ length out.old) × (drop (at.image + length (stored_for form base pixels.now).image * width_bytes form.width) out.old ≡ zeros (length out.old - (at.image + length (stored_for form base pixels.now).image * width_bytes form.width))) × (base ≤ 65535) }
-    ensures { out.new ≡ take at.image out.old ++ (body_bytes form (stored_for form base pixels.now) ++ zeros (length out.old - frame_length at.image form (stored_for form base pixels.now))) }
-{
-    let k = plain_range(form, base);
-    let n = pixels.len();
-    let mut t = at;
-    let mut p = 0;
-    loop {
-        let end = run_limit(p, n);
-        let q = next_outside(&pixels[..end], p, k);
-        t = put_plain(&pixels[p..q], form, base, out, t);
-        if q == n {
-            break;
-        }
-        t = put_pixel(pixels[q], form, base, out, t);
-        p = q + 1;
-    }
 }
 
 // Entries for one pixel in 16 at most.
@@ -686,7 +460,7 @@ fn put_header(header: &[u8], form: Form, c: Counts, out: &mut [u8])
     requires { (length header.now ≡ length out.old) × (3200 ≤ length header.now) }
     ensures { out.new ≡ relined form c header.now }
 {
-    copy(header, out);
+    out.copy_from_slice(header);
     header_text::rewrite(out, form, c);
 }
 
@@ -704,10 +478,8 @@ fn places_for(start: usize, n: usize, form: Form, c: Counts) -> Places
     ensures value { result ≡ places_by start n form c }
     ensures four_bound { result.four ≤ 2 ^ 40 }
 {
-    let w = form.width;
-    let u = form.underflow;
-    let under = start + n * layout::width_bytes(w);
-    let two = under + layout::underflow_table_bytes(u, c.under);
+    let under = start + n * layout::width_bytes(form.width);
+    let two = under + layout::underflow_table_bytes(form.underflow, c.under);
     let four = two + padded_bytes(Width::Two, c.two);
     Places {
         image: start,
@@ -721,46 +493,29 @@ fn places_for(start: usize, n: usize, form: Form, c: Counts) -> Places
 fn underflow_too_large(u: Underflow, pixels: &[u32], base: u32) -> bool
     ensures { result ≡ underflow_too_large u (under_entries u base pixels.now) }
 {
-    let Underflow::Subtracted(entry) = u else {
-        return false;
-    };
-    match entry {
-        EntryWidth::One => pixel_counts::any_large(pixels, base),
-        EntryWidth::Two => false,
+    match u {
+        Underflow::Subtracted(EntryWidth::One) => pixel_counts::any_large(pixels, base),
+        Underflow::Subtracted(EntryWidth::Two) | Underflow::None => false,
     }
 }
 
 // Line 79's baseline where the header has -1: everything wrong with it is 16.
-fn line_base(header: &[u8]) -> BaseAnswer
+fn line_base(header: &[u8]) -> Option<u32>
     ensures { result ≡ base_answer (line_base (baseline_of header.now)) }
 {
-    match header::baseline_of(header) {
-        ValueAnswer::Read(b) => {
-            if b <= 65535 {
-                BaseAnswer::Given(b)
-            } else {
-                BaseAnswer::Missing
-            }
-        }
-        ValueAnswer::Refused(_) => BaseAnswer::Missing,
-    }
+    header::baseline_of(header).ok().filter(|b| *b <= 65535)
 }
 
 // The baseline that the header gives to the kind.
-pub fn base_for(header: &[u8], h: Underflows, u: Underflow) -> BaseAnswer
+pub fn base_for(header: &[u8], h: Underflows, u: Underflow) -> Option<u32>
     ensures { result ≡ base_answer (base_for header.now h u) }
 {
-    let Underflow::Subtracted(_) = u else {
-        return BaseAnswer::Given(0);
-    };
-    match h {
-        Underflows::Unused => line_base(header),
-        Underflows::NoWidth { baseline } => BaseAnswer::Given(baseline),
-        Underflows::Counted {
-            entry: _,
-            count: _,
+    match (u, h) {
+        (Underflow::None, _) => Some(0),
+        (_, Underflows::Unused) => line_base(header),
+        (_, Underflows::NoWidth { baseline } | Underflows::Counted { baseline, .. }) => Some(
             baseline,
-        } => BaseAnswer::Given(baseline),
+        ),
     }
 }
 
@@ -768,88 +523,191 @@ pub fn base_for(header: &[u8], h: Underflows, u: Underflow) -> BaseAnswer
 fn is_plain(form: Form) -> bool
     ensures { result ≡ is_plain form.width form.underflow }
 {
-    let w = form.width;
-    let u = form.underflow;
-    match w {
-        Width::One => false,
-        Width::Two => false,
-        Width::Four => match u {
-            Underflow::None => true,
-            Underflow::Subtracted(_) => false,
-        },
-    }
+    matches!(
+        form,
+        Form {
+            width: Width::Four,
+            underflow: Underflow::None
+        }
+    )
 }
 
-// The counts of all pixels. Width 4 with kind none has no entries.
-fn count_pixels(pixels: &[u32], form: Form, base: u32) -> Counts
-    requires { (length pixels.now ≤ 16777216) × (base ≤ 65535) }
-    ensures { result ≡ counts_for form (counts_of base pixels.now) }
-{
-    if is_plain(form) {
-        return pixel_counts::no_counts();
-    }
-    pixel_counts::count(pixels, form, base as u16)
-}
-
-// All pixels, in a buffer that is zero behind the image.
-fn store_pixels(pixels: &[u32], form: Form, base: u32, c: Counts, out: &mut [u8], at: Places)
-    requires { (base ≡ used_base form.underflow base) × (at ≡ places_for at.image form (stored_for form base pixels.now)) × (frame_length at.image form (stored_for form base pixels.now) ≤ length out.old) × (drop (at.image + length (stored_for form base pixels.now).image * width_bytes form.width) out.old ≡ zeros (length out.old - (at.image + length (stored_for form base pixels.now).image * width_bytes form.width))) × (base ≤ 65535) }
-    ensures { out.new ≡ take at.image out.old ++ (body_bytes form (stored_for form base pixels.now) ++ zeros (length out.old - frame_length at.image form (stored_for form base pixels.now))) }
-{
-    if is_plain(form) {
-        let from = at.image;
-        let end = from + pixels.len() * 4;
-        table::store_halves(pixels, Width::Four, &mut out[from..end]);
-        return;
-    }
-    if has_few(c, pixels.len()) {
-        store_runs(pixels, form, base, out, at);
-        return;
-    }
-    let mut low = [0u32; 64];
-    let mut caps = [0u32; 64];
-    let mut found = [0u32; 64];
-    store_blocks(pixels, form, base, &mut low, &mut caps, &mut found, out, at);
-}
-
-// The frame in a buffer that holds it, and zeros behind it.
-fn store_frame(
-    header: &[u8],
+// How pixels are stored: the form, and the baseline that its kind subtracts.
+#[derive(Clone, Copy)]
+struct Storage {
     form: Form,
     base: u32,
-    pixels: &[u32],
-    c: Counts,
-    at: Places,
-    out: &mut [u8],
-)
-    requires { (3200 ≤ length header.now) × (base ≡ used_base form.underflow base) × (c ≡ stored_counts (stored_for form base pixels.now)) × (at ≡ places_for (length header.now) form (stored_for form base pixels.now)) × (frame_length (length header.now) form (stored_for form base pixels.now) ≤ length out.old) × (base ≤ 65535) }
-    ensures { out.new ≡ held_bytes (length out.old) (frame_bytes header.now form (stored_for form base pixels.now)) }
-{
-    let start = at.image;
-    let end = at.under;
-    table::fill(&mut out[end..], 0);
-    store_pixels(pixels, form, base, c, out, at);
-    put_header(header, form, c, &mut out[..start]);
 }
 
-// 17, 18, or the frame of a form with its baseline.
-fn write_form(header: &[u8], form: Form, base: u32, pixels: &[u32], out: &mut [u8]) -> WriteAnswer
-    requires { (Sized header.now pixels.now base) × (base ≡ used_base form.underflow base) }
-    ensures value { result ≡ answer_of (length out.old) (made_of header.now form (stored_for form base pixels.now)) }
-    ensures out_after { out.new ≡ output_of out.old (made_of header.now form (stored_for form base pixels.now)) }
-{
-    let u = form.underflow;
-    if underflow_too_large(u, pixels, base) {
-        return WriteAnswer::Refused(Refusal::UnderflowTooLarge);
+impl Storage {
+    // A block: its entries and its stored values, each at its place. `low`, `caps` and `found` are room for its numbers; they are no struct,
+    // since no proof is generated where two fields behind a reference are lent at once.
+    fn store_block(
+        self,
+        block: &[u32],
+        low: &mut [u32; 64],
+        caps: &mut [u32; 64],
+        found: &mut [u32; 64],
+        out: &mut [u8],
+        at: Places,
+    ) -> Places
+        requires { (length block.now ≤ 64) × (self.base ≡ used_base self.form.underflow self.base) × Room self.form (stored_for self.form self.base block.now) at (length out.old) }
+        ensures value { result ≡ places_after self.form (stored_for self.form self.base block.now) at }
+        ensures out_after { out.new ≡ put_block self.form (stored_for self.form self.base block.now) at out.old }
+    {
+        let w = self.form.width;
+        let Underflow::Subtracted(e) = self.form.underflow else {
+            return store_values(block, w, caps, found, out, at);
+        };
+        let low = &mut low[..block.len()];
+        let k = lower(block, self.base, low);
+        let under = put_underflows(block, e, self.base, k, found, out, at.under);
+        let t = Places { under, ..at };
+        store_values(low, w, caps, found, out, t)
     }
-    let c = count_pixels(pixels, form, base);
-    let at = places_for(header.len(), pixels.len(), form, c);
-    let end = at.four + padded_bytes(Width::Four, c.four);
-    if out.len() < end {
-        return WriteAnswer::Refused(Refusal::OutputShort);
+
+    // All blocks, in a buffer that is zero behind the image.
+    fn store_blocks(self, pixels: &[u32], out: &mut [u8], at: Places)
+        requires { Ready self pixels.now out.old at }
+        ensures { out.new ≡ with_body self pixels.now out.old at }
+    {
+        let mut low = [0u32; 64];
+        let mut caps = [0u32; 64];
+        let mut found = [0u32; 64];
+        let mut t = at;
+        let n = pixels.len();
+        // One call for the blocks and for what is left: with as_chunks, which takes two, a frame of many entries took 1.6% more instructions.
+        for i in 0..n.div_ceil(64) {
+            let p = i * 64;
+            let end = p + (n - p).min(64);
+            let block = &pixels[p..end];
+            t = self.store_block(block, &mut low, &mut caps, &mut found, out, t);
+        }
     }
-    store_frame(header, form, base, pixels, c, at, out);
-    WriteAnswer::Written { length: end as u64 }
+
+    // The pixels that a form stores with no entry.
+    fn plain_range(self) -> Range
+        requires { self.base ≤ 65535 }
+        ensures { result ≡ plain_range self.form self.base }
+    {
+        let low = lowest_plain(self.form.underflow, self.base);
+        Range {
+            low,
+            span: highest_plain(self.form.width, self.base) - low,
+        }
+    }
+
+    // A run of pixels that need no entry.
+    fn put_plain(self, run: &[u32], out: &mut [u8], at: Places) -> Places
+        requires { (only (is_outside (plain_range self.form self.base)) run.now ≡ []) × (self.base ≡ used_base self.form.underflow self.base) × (self.base ≤ 65535) × Room self.form (stored_for self.form self.base run.now) at (length out.old) }
+        ensures value { result ≡ places_after self.form (stored_for self.form self.base run.now) at }
+        ensures out_after { out.new ≡ put_block self.form (stored_for self.form self.base run.now) at out.old }
+    {
+        let image = at.image + run.len() * layout::width_bytes(self.form.width);
+        put_run(run, self.form.width, self.base, out, at.image);
+        Places { image, ..at }
+    }
+
+    // One pixel: its entries and its stored value.
+    fn put_pixel(self, v: u32, out: &mut [u8], at: Places) -> Places
+        requires { (self.base ≡ used_base self.form.underflow self.base) × Room self.form (stored_for self.form self.base (v ∷ [])) at (length out.old) }
+        ensures value { result ≡ places_after self.form (stored_for self.form self.base (v ∷ [])) at }
+        ensures out_after { out.new ≡ put_block self.form (stored_for self.form self.base (v ∷ [])) at out.old }
+    {
+        let u = self.form.underflow;
+        let w = self.form.width;
+        let Underflow::Subtracted(e) = u else {
+            return put_value(v, w, out, at);
+        };
+        if self.base < v {
+            return put_value(v - self.base, w, out, at);
+        }
+        let under = put_underflow(v, e, out, at.under);
+        let t = Places { under, ..at };
+        put_value(0, w, out, t)
+    }
+
+    // All pixels: runs with no entry, and each other pixel by itself. A run ends after 512 pixels at the latest, so that it is still in the
+    // cache when it is stored. Its length decides where the next begins, so this is a loop over no iterator.
+    fn store_runs(self, pixels: &[u32], out: &mut [u8], at: Places)
+        requires { Ready self pixels.now out.old at }
+        ensures { out.new ≡ with_body self pixels.now out.old at }
+    {
+        let k = self.plain_range();
+        let n = pixels.len();
+        let mut t = at;
+        let mut p = 0;
+        'runs: loop {
+            let end = run_limit(p, n);
+            let q = next_outside(&pixels[..end], p, k);
+            t = self.put_plain(&pixels[p..q], out, t);
+            if q == n {
+                break;
+            }
+            t = self.put_pixel(pixels[q], out, t);
+            p = q + 1;
+        }
+    }
+
+    // The counts of all pixels. Width 4 with kind none has no entries.
+    fn count_pixels(self, pixels: &[u32]) -> Counts
+        requires { (length pixels.now ≤ 16777216) × (self.base ≤ 65535) }
+        ensures { result ≡ counts_for self.form (counts_of self.base pixels.now) }
+    {
+        if is_plain(self.form) {
+            return pixel_counts::no_counts();
+        }
+        pixel_counts::count(pixels, self.form, self.base as u16)
+    }
+
+    // All pixels, in a buffer that is zero behind the image.
+    fn store_pixels(self, pixels: &[u32], c: Counts, out: &mut [u8], at: Places)
+        requires { Ready self pixels.now out.old at }
+        ensures { out.new ≡ with_body self pixels.now out.old at }
+    {
+        if is_plain(self.form) {
+            let from = at.image;
+            let end = from + pixels.len() * 4;
+            table::store_halves(pixels, Width::Four, &mut out[from..end]);
+            return;
+        }
+        if has_few(c, pixels.len()) {
+            self.store_runs(pixels, out, at);
+            return;
+        }
+        self.store_blocks(pixels, out, at);
+    }
+
+    // The frame in a buffer that holds it, and zeros behind it.
+    fn store_frame(self, header: &[u8], pixels: &[u32], c: Counts, at: Places, out: &mut [u8])
+        requires { (3200 ≤ length header.now) × (self.base ≡ used_base self.form.underflow self.base) × (c ≡ stored_counts (stored_for self.form self.base pixels.now)) × (at ≡ places_for (length header.now) self.form (stored_for self.form self.base pixels.now)) × (frame_length (length header.now) self.form (stored_for self.form self.base pixels.now) ≤ length out.old) × (self.base ≤ 65535) }
+        ensures { out.new ≡ held_bytes (length out.old) (frame_bytes header.now self.form (stored_for self.form self.base pixels.now)) }
+    {
+        let start = at.image;
+        let end = at.under;
+        out[end..].fill(0);
+        self.store_pixels(pixels, c, out, at);
+        put_header(header, self.form, c, &mut out[..start]);
+    }
+
+    // 17, 18, or the frame of a form with its baseline.
+    fn write_form(self, header: &[u8], pixels: &[u32], out: &mut [u8]) -> Result<u64, Refusal>
+        requires { (Sized header.now pixels.now self.base) × (self.base ≡ used_base self.form.underflow self.base) }
+        ensures value { result ≡ answer_of (length out.old) (made_of header.now self.form (stored_for self.form self.base pixels.now)) }
+        ensures out_after { out.new ≡ output_of out.old (made_of header.now self.form (stored_for self.form self.base pixels.now)) }
+    {
+        if underflow_too_large(self.form.underflow, pixels, self.base) {
+            return Err(Refusal::UnderflowTooLarge);
+        }
+        let c = self.count_pixels(pixels);
+        let at = places_for(header.len(), pixels.len(), self.form, c);
+        let end = at.four + padded_bytes(Width::Four, c.four);
+        if out.len() < end {
+            return Err(Refusal::OutputShort);
+        }
+        self.store_frame(header, pixels, c, at, out);
+        Ok(end as u64)
+    }
 }
 
 // 16 where the kind wants a baseline that the header does not give.
@@ -859,38 +717,32 @@ fn write_listed(
     form: Form,
     pixels: &[u32],
     out: &mut [u8],
-) -> WriteAnswer
+) -> Result<u64, Refusal>
     requires { Sized header.now pixels.now (given_baseline h) }
     ensures value { result ≡ answer_of (length out.old) (made_with header.now form pixels.now (base_for header.now h form.underflow)) }
     ensures out_after { out.new ≡ output_of out.old (made_with header.now form pixels.now (base_for header.now h form.underflow)) }
 {
-    let u = form.underflow;
-    match base_for(header, h, u) {
-        BaseAnswer::Given(b) => write_form(header, form, b, pixels, out),
-        BaseAnswer::Missing => WriteAnswer::Refused(Refusal::FormUnavailable),
-    }
+    let base = base_for(header, h, form.underflow).ok_or(Refusal::FormUnavailable)?;
+    Storage { form, base }.write_form(header, pixels, out)
 }
 
 // 16 for FORMAT 86 and a form that is not listed.
 fn write_as(
     header: &[u8],
     tables: Tables,
-    asked: AskedForm,
+    asked: Option<Form>,
     pixels: &[u32],
     out: &mut [u8],
-) -> WriteAnswer
+) -> Result<u64, Refusal>
     requires { Sized header.now pixels.now (tables_baseline tables) }
     ensures value { result ≡ answer_of (length out.old) (made_as header.now tables asked pixels.now) }
     ensures out_after { out.new ≡ output_of out.old (made_as header.now tables asked pixels.now) }
 {
     let Tables::Format100(t) = tables else {
-        return WriteAnswer::Refused(Refusal::FormUnavailable);
+        return Err(Refusal::FormUnavailable);
     };
-    let AskedForm::Listed(form) = asked else {
-        return WriteAnswer::Refused(Refusal::FormUnavailable);
-    };
-    let h = t.underflows;
-    write_listed(header, h, form, pixels, out)
+    let form = asked.ok_or(Refusal::FormUnavailable)?;
+    write_listed(header, t.underflows, form, pixels, out)
 }
 
 // The frame from an accepted header's own bytes, for its N pixels.
@@ -898,30 +750,31 @@ fn write_accepted(
     given: &[u8],
     h: Header,
     pixels: &[u32],
-    asked: AskedForm,
+    asked: Option<Form>,
     out: &mut [u8],
-) -> WriteAnswer
-    requires { header_of given.now ≡ Accepted h }
+) -> Result<u64, Refusal>
+    requires { header_of given.now ≡ Ok h }
     ensures value { result ≡ answer_of (length out.old) (made_from given.now asked pixels.now h) }
     ensures out_after { out.new ≡ output_of out.old (made_from given.now asked pixels.now h) }
 {
-    let image = h.image;
-    let tables = h.tables;
-    let n = layout::pixel_count(image);
+    let n = layout::pixel_count(h.image);
     if pixels.len() < n {
-        return WriteAnswer::Refused(Refusal::PixelArrayShort);
+        return Err(Refusal::PixelArrayShort);
     }
-    let start = image.start as usize;
-    write_as(&given[..start], tables, asked, &pixels[..n], out)
+    let start = h.image.start as usize;
+    write_as(&given[..start], h.tables, asked, &pixels[..n], out)
 }
 
 // The frame of the header's N pixels in the form asked for, at the start of out and zeros behind it.
-pub fn write(header: &[u8], pixels: &[u32], asked: AskedForm, out: &mut [u8]) -> WriteAnswer
+pub fn write(
+    header: &[u8],
+    pixels: &[u32],
+    asked: Option<Form>,
+    out: &mut [u8],
+) -> Result<u64, Refusal>
     ensures value { result ≡ write_answer header.now asked pixels.now (length out.old) }
     ensures out_after { out.new ≡ write_bytes header.now asked pixels.now out.old }
 {
-    match header::read_header(header) {
-        HeaderAnswer::Accepted(h) => write_accepted(header, h, pixels, asked, out),
-        HeaderAnswer::Refused(r) => WriteAnswer::Refused(r),
-    }
+    let h = header::read_header(header)?;
+    write_accepted(header, h, pixels, asked, out)
 }

@@ -9,14 +9,11 @@
 ghost use Rattle.std.specs.Prelude.{◌≡◌, ◌+◌, ◌≤◌, ◌<◌, length};
 
 use console::Output;
-use header::HeaderAnswer;
 use header_lines::LineId;
-use layout::{EntryAnswer, Form, Image, Underflow, Width, WidthAnswer};
-use numeral::Number;
-use reader::ReadAnswer;
+use layout::{Form, Frame, Image, Underflow, Width};
+use refusal::Refusal;
 use std::io;
 use std::io::Write;
-use writer::{AskedForm, WriteAnswer};
 
 // The first place from `at` on that has the byte, or the text's end.
 fn find(text: &[u8], at: usize, byte: u8) -> usize
@@ -63,8 +60,8 @@ fn cell(row: &[u8], k: usize) -> &[u8] {
 // A number, 0 where there is none.
 fn value(text: &[u8]) -> u32 {
     match numeral::number_of(text) {
-        Number::Value(n) => n,
-        Number::NotANumber => 0,
+        Some(n) => n,
+        None => 0,
     }
 }
 
@@ -177,28 +174,28 @@ fn put_pixels(pixels: &mut [u32], text: &[u8]) -> usize
 }
 
 // The form of a pixel width and an underflow width, where 0 asks for kind none.
-fn as_form(width: Width, underflow: u32) -> AskedForm {
+fn as_form(width: Width, underflow: u32) -> Option<Form> {
     if underflow == 0 {
-        return AskedForm::Listed(Form {
+        return Some(Form {
             width,
             underflow: Underflow::None,
         });
     }
     match layout::entry_from(underflow) {
-        EntryAnswer::Listed(e) => AskedForm::Listed(Form {
+        Some(e) => Some(Form {
             width,
             underflow: Underflow::Subtracted(e),
         }),
-        EntryAnswer::Unlisted => AskedForm::Unlisted,
+        None => None,
     }
 }
 
-fn asked_form(text: &[u8]) -> AskedForm {
+fn asked_form(text: &[u8]) -> Option<Form> {
     let space = find(text, 0, b' ');
     let behind = least(space + 1, text.len());
     match layout::width_from(value(&text[0..space])) {
-        WidthAnswer::Listed(w) => as_form(w, value(&text[behind..])),
-        WidthAnswer::Unlisted => AskedForm::Unlisted,
+        Some(w) => as_form(w, value(&text[behind..])),
+        None => None,
     }
 }
 
@@ -290,15 +287,17 @@ fn show_bytes(stdout: &mut Output, bytes: &[u8]) -> io::Result<()> {
 }
 
 // The frame is read to its end and gives the image's pixels, and they are written as the same frame.
-fn reads_back(out: &[u8], end: usize, image: Image, pixels: &[u32], asked: AskedForm) -> bool
+fn reads_back(out: &[u8], end: usize, image: Image, pixels: &[u32], asked: Option<Form>) -> bool
     requires { end ≤ length out.now }
 {
     let mut back = [9u32; 640];
-    let ReadAnswer::Frame {
-        rows,
-        columns,
-        end: last,
-    } = reader::read(out, &mut back)
+    let Ok(
+        Frame {
+            rows,
+            columns,
+            end: last,
+        },
+    ) = reader::read(out, &mut back)
     else {
         return false;
     };
@@ -314,12 +313,18 @@ fn reads_back(out: &[u8], end: usize, image: Image, pixels: &[u32], asked: Asked
 }
 
 // The frame's own header and the pixels read give the same output again.
-fn writes_again(out: &[u8], end: usize, pixels: &[u32], asked: AskedForm, again: &mut [u8]) -> bool
+fn writes_again(
+    out: &[u8],
+    end: usize,
+    pixels: &[u32],
+    asked: Option<Form>,
+    again: &mut [u8],
+) -> bool
     requires { end ≤ length out.now }
 {
     let n = least(out.len(), again.len());
     let answer = writer::write(&out[0..end], pixels, asked, &mut again[0..n]);
-    let WriteAnswer::Written { length } = answer else {
+    let Ok(length) = answer else {
         return false;
     };
     if length != end as u64 {
@@ -333,7 +338,7 @@ fn show_frame(
     given: &[u8],
     image: Image,
     pixels: &[u32],
-    asked: AskedForm,
+    asked: Option<Form>,
     out: &[u8],
     length: usize,
 ) -> io::Result<()> {
@@ -355,24 +360,24 @@ fn write_row(
     stdout: &mut Output,
     given: &[u8],
     pixels: &[u32],
-    asked: AskedForm,
+    asked: Option<Form>,
     out: &mut [u8],
 ) -> io::Result<()> {
     let answer = writer::write(given, pixels, asked, out);
-    let WriteAnswer::Written { length } = answer else {
+    let Ok(length) = answer else {
         show_refusal(stdout, answer)?;
         judge(stdout, b" output", all_are(out, 170))?;
         return Ok(());
     };
-    if let HeaderAnswer::Accepted(h) = header::read_header(given) {
+    if let Ok(h) = header::read_header(given) {
         let image = h.image;
         show_frame(stdout, given, image, pixels, asked, out, length as usize)?;
     }
     Ok(())
 }
 
-fn show_refusal(stdout: &mut Output, answer: WriteAnswer) -> io::Result<()> {
-    if let WriteAnswer::Refused(r) = answer {
+fn show_refusal(stdout: &mut Output, answer: Result<u64, Refusal>) -> io::Result<()> {
+    if let Err(r) = answer {
         number(stdout, b" -> refused ", refusal::number_of(r) as u64)?;
     }
     Ok(())

@@ -1,21 +1,31 @@
-use Rattle.ledger.proofs.Scanning.{survey-malformed}
-use mathlib.Core.Path.{◌≡◌, sym, ap, ◌∙◌}
-use Rattle.ledger.specs.declared.LedgerAnswer.TheVariants as L
+use Rattle.std.specs.Prelude.{Err}
+use Rattle.std.proofs.lemmas.Result.{err_from_is_err_and}
+use mathlib.Core.Path.{sym, ap, ◌∙◌}
 use Rattle.archive.specs.Calls.{Outcome}
-use Rattle.archive.proofs.Changes.{answer-of, held_of, ledger-of, surveyed, amend-malformed, amend-nothing, amend-correction, amend-keep, amend-other}
+use Rattle.archive.proofs.Changes.{answer-of, held_of, ledger-of, last-line, refused-as, amend-malformed, amend-nothing, amend-correction, amend-keep, amend-other}
 use Rattle.archive.proofs.amend.Goals as goal
 
-pub returns-in_default : goal.returns-in_default
-returns-in_default c = record { value = ap L.Refused c.held_refusal.ensures ∙ answer-of (amend-malformed _ _ _ _ (survey-malformed _ _ (sym c.survey.ensures ∙ c.in_default.is))); held_after = held_of (amend-malformed _ _ _ _ (survey-malformed _ _ (sym c.survey.ensures ∙ c.in_default.is))); ledger_after = ledger-of (amend-malformed _ _ _ _ (survey-malformed _ _ (sym c.survey.ensures ∙ c.in_default.is))) }
-
-pub returns-in_default-last : goal.returns-in_default-last
-returns-in_default-last c = record { value = ap L.Refused c.held_refusal-in_default-last.ensures ∙ answer-of (amend-nothing _ _ _ _ (surveyed _ _ _ (sym c.survey.ensures ∙ c.in-Surveyed.is)).0 (sym (surveyed _ _ _ (sym c.survey.ensures ∙ c.in-Surveyed.is)).1 ∙ c.in_default-last.is)); held_after = held_of (amend-nothing _ _ _ _ (surveyed _ _ _ (sym c.survey.ensures ∙ c.in-Surveyed.is)).0 (sym (surveyed _ _ _ (sym c.survey.ensures ∙ c.in-Surveyed.is)).1 ∙ c.in_default-last.is)); ledger_after = ledger-of (amend-nothing _ _ _ _ (surveyed _ _ _ (sym c.survey.ensures ∙ c.in-Surveyed.is)).0 (sym (surveyed _ _ _ (sym c.survey.ensures ∙ c.in-Surveyed.is)).1 ∙ c.in_default-last.is)) }
+pub returns-in_err-line : goal.returns-in_err-line
+returns-in_err-line c =
+    let o = refused-as _ _ _ _ _ (sym c.last_line.ensures ∙ c.in_err-line.was) (amend-malformed _ _ _ _) (amend-nothing _ _ _ _) in
+    let p = err_from_is_err_and c.from_residual.result c.from_residual.ensures.1 in
+    record { value = p.1 ∙ ap Err p.2 ∙ answer-of o; held_after = held_of o; ledger_after = ledger-of o }
 
 pub returns-in-Correction : goal.returns-in-Correction
-returns-in-Correction c = record { value = c.amend_correction.ensures.value ∙ sym (ap (λ (x : Outcome). x.answer) (amend-correction _ _ _ _ (surveyed _ _ _ (sym c.survey.ensures ∙ c.in-Surveyed.is)).0 _ _ (sym (surveyed _ _ _ (sym c.survey.ensures ∙ c.in-Surveyed.is)).1 ∙ c.in-At.is) c.in-Correction.is)); held_after = c.amend_correction.ensures.held_after ∙ sym (ap (λ (x : Outcome). x.held) (amend-correction _ _ _ _ (surveyed _ _ _ (sym c.survey.ensures ∙ c.in-Surveyed.is)).0 _ _ (sym (surveyed _ _ _ (sym c.survey.ensures ∙ c.in-Surveyed.is)).1 ∙ c.in-At.is) c.in-Correction.is)); ledger_after = c.amend_correction.ensures.ledger_after ∙ sym (ap (λ (x : Outcome). x.ledger) (amend-correction _ _ _ _ (surveyed _ _ _ (sym c.survey.ensures ∙ c.in-Surveyed.is)).0 _ _ (sym (surveyed _ _ _ (sym c.survey.ensures ∙ c.in-Surveyed.is)).1 ∙ c.in-At.is) c.in-Correction.is)) }
+returns-in-Correction c =
+    let s = last-line _ _ _ _ (sym c.last_line.ensures ∙ c.in_ok-line.was) in
+    let o = amend-correction _ _ _ _ s.well _ _ s.is c.in-Correction.is in
+    let r = c.amend_correction.ensures in
+    record { value = r.value ∙ sym (ap (λ (x : Outcome). x.answer) o); held_after = r.held_after ∙ sym (ap (λ (x : Outcome). x.held) o); ledger_after = r.ledger_after ∙ sym (ap (λ (x : Outcome). x.ledger) o) }
 
 pub returns-in-Keep : goal.returns-in-Keep
-returns-in-Keep c = record { value = ap L.Refused c.held_refusal-in-Keep.ensures ∙ answer-of (amend-keep _ _ _ _ (surveyed _ _ _ (sym c.survey.ensures ∙ c.in-Surveyed.is)).0 _ _ (sym (surveyed _ _ _ (sym c.survey.ensures ∙ c.in-Surveyed.is)).1 ∙ c.in-At.is) c.in-Keep.is); held_after = held_of (amend-keep _ _ _ _ (surveyed _ _ _ (sym c.survey.ensures ∙ c.in-Surveyed.is)).0 _ _ (sym (surveyed _ _ _ (sym c.survey.ensures ∙ c.in-Surveyed.is)).1 ∙ c.in-At.is) c.in-Keep.is); ledger_after = ledger-of (amend-keep _ _ _ _ (surveyed _ _ _ (sym c.survey.ensures ∙ c.in-Surveyed.is)).0 _ _ (sym (surveyed _ _ _ (sym c.survey.ensures ∙ c.in-Surveyed.is)).1 ∙ c.in-At.is) c.in-Keep.is) }
+returns-in-Keep c =
+    let s = last-line _ _ _ _ (sym c.last_line.ensures ∙ c.in_ok-line.was) in
+    let o = amend-keep _ _ _ _ s.well _ _ s.is c.in-Keep.is in
+    record { value = ap Err c.held_refusal.ensures ∙ answer-of o; held_after = held_of o; ledger_after = ledger-of o }
 
 pub returns-in-Withdrawal : goal.returns-in-Withdrawal
-returns-in-Withdrawal c = record { value = ap L.Refused c.held_refusal-in-Withdrawal.ensures ∙ answer-of (amend-other _ _ _ _ (surveyed _ _ _ (sym c.survey.ensures ∙ c.in-Surveyed.is)).0 _ _ (sym (surveyed _ _ _ (sym c.survey.ensures ∙ c.in-Surveyed.is)).1 ∙ c.in-At.is) c.in-Withdrawal.is); held_after = held_of (amend-other _ _ _ _ (surveyed _ _ _ (sym c.survey.ensures ∙ c.in-Surveyed.is)).0 _ _ (sym (surveyed _ _ _ (sym c.survey.ensures ∙ c.in-Surveyed.is)).1 ∙ c.in-At.is) c.in-Withdrawal.is); ledger_after = ledger-of (amend-other _ _ _ _ (surveyed _ _ _ (sym c.survey.ensures ∙ c.in-Surveyed.is)).0 _ _ (sym (surveyed _ _ _ (sym c.survey.ensures ∙ c.in-Surveyed.is)).1 ∙ c.in-At.is) c.in-Withdrawal.is) }
+returns-in-Withdrawal c =
+    let s = last-line _ _ _ _ (sym c.last_line.ensures ∙ c.in_ok-line.was) in
+    let o = amend-other _ _ _ _ s.well _ _ s.is c.in-Withdrawal.is in
+    record { value = ap Err c.held_refusal-in-Withdrawal.ensures ∙ answer-of o; held_after = held_of o; ledger_after = ledger-of o }

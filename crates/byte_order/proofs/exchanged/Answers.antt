@@ -21,4 +21,4 @@ middle v b =
     lower h l k p = omega arith
 
 pub returns : goal.returns
-returns c = middle _ c.requires
+returns c = middle _ (omega (arith, c.ranges.v))

@@ -1,11 +1,8 @@
-use Rattle.byte_order.proofs.Laws.{bytes-any}
+use Rattle.byte_order.proofs.Laws.{bytes-any, numbers-little}
 use Rattle.byte_order.proofs.load.Goals as goal
 
-pub returns-in-One : goal.returns-in-One
-returns-in-One c = rw (c.in-One.is, bytes-any) c.load.ensures
+pub returns-in-One-default-clause-out_after : goal.returns-in-One-default-clause-out_after
+returns-in-One-default-clause-out_after c = rw (c.in-One-default.is-0, bytes-any) c.load.ensures.out_after
 
-pub returns-in-Two : goal.returns-in-Two
-returns-in-Two c = rw c.in-Two.is c.load16.ensures
-
-pub returns-in-Four : goal.returns-in-Four
-returns-in-Four c = rw c.in-Four.is c.load32.ensures
+pub returns-in-Two-Little-clause-out_after : goal.returns-in-Two-Little-clause-out_after
+returns-in-Two-Little-clause-out_after c = rw (c.in-Two-Little.is-0, c.in-Two-Little.is-1, numbers-little) c.load-in-Two-Little.ensures.out_after

@@ -4,4 +4,4 @@ use Rattle.canonical.proofs.Decides.{decides}
 use Rattle.canonical.proofs.locate.Goals as goal
 
 pub returns : goal.returns
-returns c = c.check.ensures ∙ decides _ _ (λ i. omega (arith, c.shared_slice_known-1.given i))
+returns c = c.check.ensures ∙ decides _ _ (λ i. omega (arith, c.type_inv.held i))

@@ -1,7 +1,6 @@
-use mathlib.Core.Path.{◌≡◌, ◌∙◌}
-use Prim.Native.Nat.{◌-◌}
 use native.Mathlib.Omega.{arith}
-use Rattle.compaction.proofs.Gathering.{gathering-start, gathering-small, gathering-back, gathering-skip, gathering-stay, gathering-done}
+use Rattle.std.proofs.Common.{rules}
+use Rattle.compaction.proofs.Gathering.{gathering-start, gathering-small, gathering-back, gathering-skip, gathering-stay, gathering-done, copied-is}
 use Rattle.compaction.proofs.gather.Goals as goal
 
 pub loop-i-init : goal.loop-i-init
@@ -17,10 +16,10 @@ pub overflow_add-skip : goal.overflow_add-skip
 overflow_add-skip c = let f = c.loop-i.invariant in omega (arith, gathering-small f, f.fits)
 
 pub loop-i-preserved-then-ledger-i-eq2 : goal.loop-i-preserved-then-ledger-i-eq2
-loop-i-preserved-then-ledger-i-eq2 c = gathering-back c.loop-i.invariant _ (omega arith) (λ k. omega (arith, c.slice_known-in-loop-i-1.given k)) c.if-ledger-i-eq2.true
+loop-i-preserved-then-ledger-i-eq2 c = gathering-back c.loop-i.invariant _ (omega arith) (λ k. search rules) c.if-ledger-i-eq2.true
 
 pub loop-i-preserved-then-skip-gt0 : goal.loop-i-preserved-then-skip-gt0
-loop-i-preserved-then-skip-gt0 c = gathering-skip c.loop-i.invariant _ (omega arith) (λ k. omega (arith, c.slice_known-in-loop-i-1.given k)) c.if-ledger-i-eq2.false c.if-skip-gt0.true
+loop-i-preserved-then-skip-gt0 c = gathering-skip c.loop-i.invariant _ (omega arith) (λ k. search rules) c.if-ledger-i-eq2.false c.if-skip-gt0.true
 
 pub overflow_sub-to : goal.overflow_sub-to
 overflow_sub-to c = omega (arith, c.loop-i.invariant.upto)
@@ -33,8 +32,8 @@ overflow_mul-to c = let f = c.loop-i.invariant in omega (arith, f.fits, f.upto, 
 
 pub loop-i-preserved : goal.loop-i-preserved
 loop-i-preserved c = let f = c.loop-i.invariant in
-    rw c.copy_within.ensures
-    (gathering-stay f _ (omega arith) (λ k. omega (arith, c.slice_known-in-loop-i-1.given k)) c.if-ledger-i-eq2.false c.if-skip-gt0.false)
+    rw (c.copy_within.ensures.after, copied-is)
+    (gathering-stay f _ (omega arith) (λ k. search rules) c.if-ledger-i-eq2.false c.if-skip-gt0.false)
 
 pub shape_of-ledger : goal.shape_of-ledger
 shape_of-ledger c = c.loop-i.invariant.size

@@ -1,22 +1,19 @@
-use Prim.Native.Nat.{◌<◌}
-use mathlib.Core.Path.{◌≡◌}
-use mathlib.Core.Bool.{true}
-use native.Mathlib.Omega.{arith}
-use lib.ListN.{length}
-use Rattle.dtrek_items.specs.Survey.{is_malformed, Sound}
+use Rattle.std.proofs.Common.{◌≡◌, ℕ, ◌≤◌, List, length, true, arith, Err}
+use Rattle.dtrek_items.specs.declared.ItemsError.{ItemsError}
+use Rattle.dtrek_items.specs.declared.ItemsError.TheVariants.{Malformed, TooLong}
+use Rattle.dtrek_items.specs.Survey.{is_malformed, Surveyed}
 use Rattle.dtrek_header.specs.DtrekHeader.{header_in}
 use Rattle.dtrek_header.proofs.read_text.Goals as goal
 
-pub read_items-requires : goal.read_items-requires
-read_items-requires c = let q : Sound _ _ = rw c.in-Sound.is at c.survey.ensures in q.found
+-- a text of up to 99,840 bytes is not too long
+malformed : (text : List ℕ) (e : ItemsError) → length text ≤ 99840 → Surveyed text (Err e) → is_malformed text ≡ true
+malformed text Malformed h s = s
+malformed text TooLong h s = absurd (omega arith)
 
-pub returns-in-Sound : goal.returns-in-Sound
+pub returns-in-Ok : goal.returns-in-Ok
 unfolding header_in
-returns-in-Sound c = let q : Sound _ _ = rw c.in-Sound.is at c.survey.ensures in rw q.formed c.read_items.ensures
+returns-in-Ok c = let q = c.in-Ok.ensures in rw q.formed c.read_items.ensures
 
-pub returns-in-Malformed : goal.returns-in-Malformed
+pub returns-in-Err : goal.returns-in-Err
 unfolding header_in
-returns-in-Malformed c = let q : is_malformed _ ≡ true = rw c.in-Malformed.is at c.survey.ensures in rw q
-
-pub returns-in-TooLong : goal.returns-in-TooLong
-returns-in-TooLong c = let q : 99840 < length c.args.text.now = rw c.in-TooLong.is at c.survey.ensures in absurd (omega (arith, c.requires))
+returns-in-Err c = rw (malformed c.args.text.now c.in-Err.field-0 c.requires c.in-Err.ensures)

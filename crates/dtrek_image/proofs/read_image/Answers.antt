@@ -2,7 +2,7 @@ use Rattle.byte_order.proofs.Laws.{loaded}
 use Rattle.dtrek_image.proofs.Frame.{bytes_le, short, truncated, room, framed}
 use lib.Seq.{length-take-le}
 use native.Mathlib.Omega.{arith}
-use mathlib.Core.Path.{sym, ◌∙◌}
+use mathlib.Core.Path.{sym}
 use Rattle.dtrek_image.proofs.read_image.Goals as goal
 
 pub returns-then-pixels-n : goal.returns-then-pixels-n

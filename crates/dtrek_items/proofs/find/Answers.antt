@@ -1,29 +1,12 @@
-use Prim.Native.Nat.{◌+◌, ◌-◌, ◌/◌}
-use mathlib.Core.Path.{sym, ◌∙◌}
-use native.Mathlib.Omega.{arith}
-use Rattle.dtrek_items.proofs.Inserting.{searching-start, search-higher, search-lower, search-here, search-end}
+use Rattle.std.proofs.Common.{rules}
+use Rattle.std.proofs.lemmas.Fn.{always_returns_same}
+use Rattle.dtrek_text.specs.Bytes.{keyword_at}
+use Rattle.dtrek_items.specs.Keys.{compared}
+use Rattle.dtrek_items.proofs.Inserting.{searched}
 use Rattle.dtrek_items.proofs.find.Goals as goal
 
-pub loop-low-init : goal.loop-low-init
-loop-low-init c = searching-start _ _ _
-
-pub overflow_cast-places : goal.overflow_cast-places
-overflow_cast-places c = omega (arith, c.shared_slice_known-in-loop-low-1.given (c.loop-low.low + (c.loop-low.high - c.loop-low.low) / 2))
-
-pub loop-low-preserved-in-Before : goal.loop-low-preserved-in-Before
-loop-low-preserved-in-Before c = let l = c.loop-low in
-    let s = c in
-    search-higher l.invariant s.requires (l.low + (l.high - l.low) / 2) (omega arith) (omega arith) (rw (← c.keyword_at.ensures) (sym c.compare.ensures ∙ c.in-Before.is))
-
-pub returns-in-Same : goal.returns-in-Same
-returns-in-Same c = let l = c.loop-low in
-    let s = c in
-    search-here l.invariant s.requires (l.low + (l.high - l.low) / 2) (omega arith) (omega arith) (rw (← c.keyword_at.ensures) (sym c.compare.ensures ∙ c.in-Same.is))
-
-pub loop-low-preserved : goal.loop-low-preserved
-loop-low-preserved c = let l = c.loop-low in
-    let s = c in
-    search-lower l.invariant s.requires (l.low + (l.high - l.low) / 2) (omega arith) (omega arith) (rw (← c.keyword_at.ensures) (sym c.compare.ensures ∙ c.in-After.is))
-
 pub returns : goal.returns
-returns c = search-end c.loop-low.invariant c.loop-low-test.false
+returns c =
+    let a = c.args in
+    rw c.err.ensures.value
+    (searched a.text.now a.places.now a.key.now c.binary_search_by.result c.requires c.binary_search_by.ensures.bound (c.binary_search_by.ensures.position (λ p. compared (keyword_at a.text.now p) a.key.now) (always_returns_same _ _ _ (λ a r f' k. search rules))))

@@ -1,4 +1,3 @@
-use Prim.Native.Nat.{◌-◌}
 use mathlib.Core.Path.{sym, ◌∙◌}
 use native.Mathlib.Omega.{arith}
 use lib.ListN.{take}
@@ -45,7 +44,7 @@ overflow_cast-start c = let s = found-stands (sym c.in-Found.is ∙ c.item.ensur
 pub insert-requires : goal.insert-requires
 insert-requires c = let l = c.loop-start in
     let r = keeping-room l.invariant.keeping (found-stands (sym c.in-Found.is ∙ c.item.ensures)) in
-    let w : Between _ (take l.k l.places) _ _ = rw c.in-Free.is at c.find.ensures in
+    let w : Between _ (take l.k l.places) _ _ = rw c.in-Some.is at c.find.ensures in
     (omega (arith, w.upto, length-take-le l.k l.places (omega arith)), r)
 
 pub overflow_add-from : goal.overflow_add-from
@@ -70,7 +69,7 @@ loop-start-smaller c = let s = found-stands (sym c.in-Found.is ∙ c.item.ensure
 
 pub loop-start-preserved : goal.loop-start-preserved
 loop-start-preserved c = let l = c.loop-start in
-    let w : Between _ (take l.k l.places) _ _ = rw c.in-Free.is at c.find.ensures in
+    let w : Between _ (take l.k l.places) _ _ = rw c.in-Some.is at c.find.ensures in
     surveying-more l.invariant (found-stands (sym c.in-Found.is ∙ c.item.ensures)) w c.insert.ensures c.note_all-f.ensures
 
 pub returns-in-Bad : goal.returns-in-Bad

@@ -1,5 +1,4 @@
 use Prim.Native.Nat.{◌-◌}
-use mathlib.Core.Path.{◌∙◌}
 use lib.ListN.{length}
 use Rattle.dtrek_items.proofs.Noting.{Surveying}
 use Rattle.dtrek_items.proofs.survey_with.Given as goal

@@ -1,14 +1,7 @@
-use mathlib.Core.Path.{ap, ◌∙◌}
-use native.Mathlib.Omega.{arith}
-use Rattle.dtrek_text.specs.Bytes.{trimmed}
-use Rattle.dtrek_items.proofs.Noting.{nothing-between, nothing-behind, part-past}
+use Rattle.std.proofs.Common.{arith}
+use Rattle.dtrek_items.proofs.Noting.{nothing-within}
 use Rattle.dtrek_items.proofs.value.Goals as goal
 
-pub returns-then-stop-from : goal.returns-then-stop-from
-returns-then-stop-from c = nothing-between c.args.text.now c.args.c.from c.args.c.stop (omega arith)
-
-pub returns-then-text-from : goal.returns-then-text-from
-returns-then-text-from c = nothing-behind c.args.text.now c.args.c.from c.args.c.stop (omega arith)
-
-pub returns-then-text-stop : goal.returns-then-text-stop
-returns-then-text-stop c = c.trim.ensures ∙ ap trimmed (part-past c.args.text.now c.args.c.from c.args.c.stop (omega arith))
+pub returns-in-None : goal.returns-in-None
+returns-in-None c =
+    rw c.in-Some.is (nothing-within c.args.text.now c.in-Some.field-0.from c.in-Some.field-0.stop c.min-end.result c.min-end.ensures (omega (arith, c.in-None.ensures.lookup.0)))

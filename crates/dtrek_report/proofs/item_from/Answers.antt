@@ -47,6 +47,3 @@ returns-in-Found c = rw (c.white_run.ensures, c.trim.ensures, ← c.item.ensures
 
 pub returns-in-Bad : goal.returns-in-Bad
 returns-in-Bad c = rw (← c.item.ensures, c.in-Bad.is) c.item_refused.ensures
-
-pub returns-in-Last : goal.returns-in-Last
-returns-in-Last c = rw (← c.item.ensures, c.in-Last.is)

@@ -1,22 +1,30 @@
-use native.Mathlib.Omega.{arith}
-use Rattle.dtrek_text.proofs.Trims.{trimming-start, trimming-more, trimming-other, trimming-none}
-use Rattle.dtrek_text.specs.Bytes.{is_white, trimmed}
+use Rattle.std.proofs.Common.{◌-◌, drop, sym, ◌∙◌, arith, length}
+use lib.ListN.{length-drop}
+use lib.Seq.{take_all}
+use Rattle.numeral.specs.Runs.{leading}
 use Rattle.numeral.proofs.Runs.{leading_le}
-use Prim.Native.Nat.{◌-◌}
-use mathlib.Core.Path.{sym, ◌∙◌}
+use Rattle.dtrek_text.specs.Bytes.{is_white, trimmed}
+use Rattle.dtrek_text.proofs.Trims.{last-white, last-other, none-left}
 use Rattle.dtrek_text.proofs.trim.Goals as goal
 
-pub loop-end-init : goal.loop-end-init
-loop-end-init c = let v = c.args.v.now in
-    trimming-start v c.white_run-start.result (omega (arith, c.white_run-start.ensures, leading_le is_white v))
+pub slice_bounds-rest-count : goal.slice_bounds-rest-count
+slice_bounds-rest-count c = omega (arith, c.white_run.ensures, leading_le is_white c.args.v.now)
 
-pub loop-end-preserved : goal.loop-end-preserved
-loop-end-preserved c = trimming-more c.loop-end.invariant c.loop-end-test.true (sym c.is_white.ensures ∙ c.if-is_white.true)
+pub slice_bounds-rest-start : goal.slice_bounds-rest-start
+slice_bounds-rest-start c = omega (arith, c.white_run.ensures, leading_le is_white c.args.v.now)
 
-pub returns-else-is_white : goal.returns-else-is_white
+pub loop-rest-init : goal.loop-rest-init
 unfolding trimmed
-returns-else-is_white c = trimming-other c.loop-end.invariant c.loop-end-test.true (sym c.is_white.ensures ∙ c.if-is_white.false) ∙ rw c.white_run-start.ensures
+loop-rest-init c =
+    let v = c.args.v.now in
+    let k = leading is_white v in
+    rw (c.white_run.ensures, take_all (length v - k) (drop k v) (rw length-drop (omega arith)))
+
+pub returns-then-not-is_white : goal.returns-then-not-is_white
+returns-then-not-is_white c = last-other c.loop-rest.rest.now (omega (arith, c.in-len1-up.len_at_least)) (sym c.is_white.ensures ∙ c.if-not-is_white.true) ∙ c.loop-rest.invariant
+
+pub loop-rest-preserved : goal.loop-rest-preserved
+loop-rest-preserved c = last-white c.loop-rest.rest.now (omega (arith, c.in-len1-up.len_at_least)) (sym c.is_white.ensures ∙ c.if-not-is_white.false) ∙ c.loop-rest.invariant
 
 pub returns : goal.returns
-unfolding trimmed
-returns c = trimming-none c.loop-end.invariant c.loop-end-test.false ∙ rw c.white_run-start.ensures
+returns c = none-left c.loop-rest.rest.now (omega (arith, c.in_default.len_below)) ∙ c.loop-rest.invariant

@@ -1,10 +1,9 @@
-use Rattle.dtrek_text.proofs.Trims.{Trimming}
-use Prim.Native.Nat.{◌-◌}
-use mathlib.Core.Path.{◌∙◌}
+use Rattle.std.proofs.Common.{◌≡◌, length}
+use Rattle.dtrek_text.specs.Bytes.{trim_end, trimmed}
 use Rattle.dtrek_text.proofs.trim.Given as goal
 
-abbrev pub invariant-loop-end : goal.invariant-loop-end
-invariant-loop-end l = Trimming l.v l.start l.end
+abbrev pub invariant-loop-rest : goal.invariant-loop-rest
+invariant-loop-rest l = trim_end l.rest ≡ trimmed l.v
 
-abbrev pub decreases-loop-end : goal.decreases-loop-end
-decreases-loop-end l = l.end - l.start
+abbrev pub decreases-loop-rest : goal.decreases-loop-rest
+decreases-loop-rest l = length l.rest

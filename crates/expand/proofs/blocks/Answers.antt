@@ -1,4 +1,4 @@
-use Rattle.std.proofs.Common.{◌≡◌, ◌-◌, ◌*◌, ◌≤◌, length, sym, arith, length-drop}
+use Rattle.std.proofs.Common.{◌*◌, ◌≤◌, length, sym, arith, length-drop}
 use Rattle.layout.specs.Form.{width_bytes}
 use Rattle.table.proofs.Laws.{length-entries}
 use Rattle.expand.proofs.Whole.{done-start, done_next, done-whole, part-fits, part_length, tail-is, reach}

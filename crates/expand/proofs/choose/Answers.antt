@@ -5,4 +5,4 @@ pub returns-then-v-eq0 : goal.returns-then-v-eq0
 returns-then-v-eq0 c = rw (eq-eqb _ _ c.if-v-eq0.true)
 
 pub returns-else-v-eq0 : goal.returns-else-v-eq0
-returns-else-v-eq0 c = rw (ne_eqb _ _ c.if-v-eq0.false) c.wrapping_add_u32.ensures.value
+returns-else-v-eq0 c = rw (ne_eqb _ _ c.if-v-eq0.false)

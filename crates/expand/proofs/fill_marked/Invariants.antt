@@ -1,11 +1,8 @@
-use Rattle.std.proofs.Common.{ℕ, ◌-◌, length, ⊎_elim}
+use Rattle.std.proofs.Common.{ℕ}
 use Rattle.layout.specs.Form.{width_bytes}
 use Rattle.table.specs.Table.{whole_entries}
 use Rattle.expand.proofs.Loops.{Filling}
 use Rattle.expand.proofs.fill_marked.Given as goal
 
-abbrev pub invariant-loop-i : goal.invariant-loop-i
-invariant-loop-i l = Filling l.mark (λ (x : ℕ). x) (whole_entries (width_bytes l.w) l.t) l.from l.initial.pixels l.pixels l.k l.i
-
-abbrev pub decreases-loop-i : goal.decreases-loop-i
-decreases-loop-i l = length l.initial.pixels - l.i
+abbrev pub invariant-loop-v : goal.invariant-loop-v
+invariant-loop-v l = Filling l.mark (λ (x : ℕ). x) (whole_entries (width_bytes l.w) l.t) l.from l.initial.pixels l.pixels l.k l.v-index

@@ -1,13 +1,11 @@
+use borrow.Author.Tests.{eqb-false}
 use Rattle.expand.proofs.Steps.{no}
 use Rattle.expand.proofs.Runs.{unmarked-one}
 use Rattle.std.proofs.Common.{sym, ◌∙◌}
 use Rattle.expand.proofs.is_mark.Goals as goal
 
-pub returns-then-b-eq255 : goal.returns-then-b-eq255
-returns-then-b-eq255 c = λ e. absurd (no e)
+pub returns-then-applies : goal.returns-then-applies
+returns-then-applies c = λ e. unmarked-one _ _ c.if-b-eq255.false (λ t. eqb-false _ _ e)
 
-pub returns-then-b-eq0 : goal.returns-then-b-eq0
-returns-then-b-eq0 c = λ e. unmarked-one _ _ c.if-b-eq255.false (λ t. absurd (no (sym t ∙ e)))
-
-pub returns : goal.returns
-returns c = λ e. unmarked-one _ _ c.if-b-eq255.false (λ t. c.if-b-eq0.false)
+pub returns-else-applies : goal.returns-else-applies
+returns-else-applies c = λ e. unmarked-one _ _ c.if-b-eq255.false (λ t. absurd (no (sym t ∙ e)))

@@ -1,12 +1,8 @@
-use Rattle.std.proofs.Common.{◌-◌, length}
 use Rattle.layout.specs.Form.{width_bytes}
 use Rattle.table.specs.Table.{whole_entries}
 use Rattle.expand.specs.Blocks.{wrapped}
 use Rattle.expand.proofs.Loops.{Filling}
 use Rattle.expand.proofs.lift_marked.Given as goal
 
-abbrev pub invariant-loop-i : goal.invariant-loop-i
-invariant-loop-i l = Filling 0 (wrapped l.base) (whole_entries (width_bytes l.w) l.t) l.from l.initial.pixels l.pixels l.k l.i
-
-abbrev pub decreases-loop-i : goal.decreases-loop-i
-decreases-loop-i l = length l.initial.pixels - l.i
+abbrev pub invariant-loop-v : goal.invariant-loop-v
+invariant-loop-v l = Filling 0 (wrapped l.base) (whole_entries (width_bytes l.w) l.t) l.from l.initial.pixels l.pixels l.k l.v-index

@@ -1,9 +1,6 @@
+use Rattle.std.proofs.Common.{◌+◌, ◌*◌}
 use Rattle.expand.specs.Blocks.{Passed}
-use Rattle.std.proofs.Common.{◌+◌, ◌-◌}
 use Rattle.expand.proofs.next_mark.Given as goal
 
-abbrev pub invariant-loop-q : goal.invariant-loop-q
-invariant-loop-q l = Passed l.applies l.s l.p l.end l.q
-
-abbrev pub decreases-loop-q : goal.decreases-loop-q
-decreases-loop-q l = l.end - l.q
+abbrev pub invariant-loop-k : goal.invariant-loop-k
+invariant-loop-k l = Passed l.applies l.s l.p l.end (l.p + l.k * 16)

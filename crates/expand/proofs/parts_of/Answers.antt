@@ -1,7 +1,7 @@
+use Rattle.std.specs.Prelude.{Some}
 use Rattle.std.proofs.Common.{ap, arith, le-leb}
 use borrow.Author.Tests.{lt-leb}
 use Rattle.expand.specs.Expand.{parts_whole}
-use Rattle.expand.specs.declared.PartsAnswer.TheVariants.{At}
 use Rattle.expand.proofs.Parts.{inside, padding-is, end_is}
 use Rattle.expand.proofs.parts_of.Goals as goal
 
@@ -25,4 +25,4 @@ returns-then-not-paddings_zero c = let s = c.args in
 pub returns : goal.returns
 unfolding parts_whole
 returns c = let s = c.args in
-    rw (le-leb _ _ (rw c.pixel_count-n.ensures at c.if-n-gt4294967296.false), le-leb _ _ (rw (end_is c.args.image c.args.tables c.places_of-p.ensures) at c.if-bytes-end.false), ← padding-is s.image s.tables s.bytes.now c.places_of-p.ensures, ← c.paddings_zero.ensures, c.if-not-paddings_zero.false) (ap At c.places_of-p.ensures)
+    rw (le-leb _ _ (rw c.pixel_count-n.ensures at c.if-n-gt4294967296.false), le-leb _ _ (rw (end_is c.args.image c.args.tables c.places_of-p.ensures) at c.if-bytes-end.false), ← padding-is s.image s.tables s.bytes.now c.places_of-p.ensures, ← c.paddings_zero.ensures, c.if-not-paddings_zero.false) (ap Some c.places_of-p.ensures)

@@ -1,7 +1,7 @@
 use Rattle.expand.proofs.Whole.{done-start, done-whole, done-reach, part_length}
 use Rattle.expand.proofs.Runs.{done-run, done-pixel}
 use Rattle.table.proofs.Laws.{length-entries}
-use Rattle.std.proofs.Common.{◌≡◌, ◌+◌, ◌-◌, sym, refl, ◌∙◌, arith}
+use Rattle.std.proofs.Common.{sym, refl, arith}
 use Rattle.expand.proofs.step_runs.Goals as goal
 
 pub loop-c-init : goal.loop-c-init
@@ -41,10 +41,10 @@ pub step_pixel-x-requires : goal.step_pixel-x-requires
 step_pixel-x-requires c = let l = c.loop-c in omega (arith, l.invariant.1.two-low, l.invariant.1.four_low, l.invariant.1.under_low, c.next_mark-q.ensures.low, c.next_mark-q.ensures.upto)
 
 pub offset_bounds-pixels-q : goal.offset_bounds-pixels-q
-offset_bounds-pixels-q c = let d = (done-run c.args.image.now c.loop-c.invariant.1 (omega (arith, c.requires.0)) c.requires.1 (λ i. omega (arith, c.shared_slice_known-1.given i)) c.next_mark-q.ensures c.run_end-end.ensures.1 (rw c.used_baseline-base.ensures at c.lift_bytes.ensures)) in let g = c.well_formed in omega (arith, done-reach d, c.next_mark-q.ensures.low, c.next_mark-q.ensures.upto, c.run_end-end.ensures)
+offset_bounds-pixels-q c = let d = (done-run c.args.image.now c.loop-c.invariant.1 (omega (arith, c.requires.0)) c.requires.1 (λ i. omega (arith, c.type_inv.image i)) c.next_mark-q.ensures c.run_end-end.ensures.1 (rw c.used_baseline-base.ensures at c.lift_bytes.ensures)) in let g = c.well_formed in omega (arith, done-reach d, c.next_mark-q.ensures.low, c.next_mark-q.ensures.upto, c.run_end-end.ensures)
 
 pub bounds-pixels-q : goal.bounds-pixels-q
-bounds-pixels-q c = let d = (done-run c.args.image.now c.loop-c.invariant.1 (omega (arith, c.requires.0)) c.requires.1 (λ i. omega (arith, c.shared_slice_known-1.given i)) c.next_mark-q.ensures c.run_end-end.ensures.1 (rw c.used_baseline-base.ensures at c.lift_bytes.ensures)) in omega (arith, done-reach d, c.next_mark-q.ensures.low, c.next_mark-q.ensures.upto, c.run_end-end.ensures)
+bounds-pixels-q c = let d = (done-run c.args.image.now c.loop-c.invariant.1 (omega (arith, c.requires.0)) c.requires.1 (λ i. omega (arith, c.type_inv.image i)) c.next_mark-q.ensures c.run_end-end.ensures.1 (rw c.used_baseline-base.ensures at c.lift_bytes.ensures)) in omega (arith, done-reach d, c.next_mark-q.ensures.low, c.next_mark-q.ensures.upto, c.run_end-end.ensures)
 
 pub overflow_add-p : goal.overflow_add-p
 overflow_add-p c = omega (arith, c.next_mark-q.ensures.low, c.next_mark-q.ensures.upto, c.run_end-end.ensures)
@@ -53,10 +53,10 @@ pub loop-c-smaller : goal.loop-c-smaller
 loop-c-smaller c = omega (arith, c.next_mark-q.ensures.low, c.next_mark-q.ensures.upto, c.run_end-end.ensures)
 
 pub loop-c-preserved : goal.loop-c-preserved
-loop-c-preserved c = (refl, done-pixel c.args.image.now (done-run c.args.image.now c.loop-c.invariant.1 (omega (arith, c.requires.0)) c.requires.1 (λ i. omega (arith, c.shared_slice_known-1.given i)) c.next_mark-q.ensures c.run_end-end.ensures.1 (rw c.used_baseline-base.ensures at c.lift_bytes.ensures)) (omega (arith, c.requires.0)) (omega (arith, c.next_mark-q.ensures.low, c.next_mark-q.ensures.upto, c.run_end-end.ensures)) c.step_pixel-x.ensures)
+loop-c-preserved c = (refl, done-pixel c.args.image.now (done-run c.args.image.now c.loop-c.invariant.1 (omega (arith, c.requires.0)) c.requires.1 (λ i. omega (arith, c.type_inv.image i)) c.next_mark-q.ensures c.run_end-end.ensures.1 (rw c.used_baseline-base.ensures at c.lift_bytes.ensures)) (omega (arith, c.requires.0)) (omega (arith, c.next_mark-q.ensures.low, c.next_mark-q.ensures.upto, c.run_end-end.ensures)) c.step_pixel-x.ensures)
 
 pub shape_of-pixels : goal.shape_of-pixels
-shape_of-pixels c = (done-run c.args.image.now c.loop-c.invariant.1 (omega (arith, c.requires.0)) c.requires.1 (λ i. omega (arith, c.shared_slice_known-1.given i)) c.next_mark-q.ensures c.run_end-end.ensures.1 (rw c.used_baseline-base.ensures at c.lift_bytes.ensures)).same
+shape_of-pixels c = (done-run c.args.image.now c.loop-c.invariant.1 (omega (arith, c.requires.0)) c.requires.1 (λ i. omega (arith, c.type_inv.image i)) c.next_mark-q.ensures c.run_end-end.ensures.1 (rw c.used_baseline-base.ensures at c.lift_bytes.ensures)).same
 
 pub returns : goal.returns
-returns c = done-whole (done-run c.args.image.now c.loop-c.invariant.1 (omega (arith, c.requires.0)) c.requires.1 (λ i. omega (arith, c.shared_slice_known-1.given i)) c.next_mark-q.ensures c.run_end-end.ensures.1 (rw c.used_baseline-base.ensures at c.lift_bytes.ensures)) (rw length-entries (omega arith))
+returns c = done-whole (done-run c.args.image.now c.loop-c.invariant.1 (omega (arith, c.requires.0)) c.requires.1 (λ i. omega (arith, c.type_inv.image i)) c.next_mark-q.ensures c.run_end-end.ensures.1 (rw c.used_baseline-base.ensures at c.lift_bytes.ensures)) (rw length-entries (omega arith))

@@ -1,4 +1,3 @@
-use mathlib.Core.Path.{◌∙◌}
 use native.Mathlib.Omega.{arith}
 use Rattle.layout.proofs.Laws.{table-small}
 use Rattle.form_choice.proofs.Tables.{table_empty}

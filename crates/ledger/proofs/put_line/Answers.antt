@@ -1,6 +1,9 @@
-use Rattle.ledger.proofs.LineLaws.{line-put}
-use mathlib.Core.Path.{◌∙◌}
+use mathlib.Core.Path.{ap, ◌∙◌}
+use Rattle.lists.specs.Bytes.{big_bytes}
+use Rattle.ledger.specs.Lines.{line_bytes}
+use Rattle.ledger.proofs.LineLaws.{line-put, number-bytes}
 use Rattle.ledger.proofs.put_line.Goals as goal
 
 pub returns : goal.returns
-returns c = c.put_word-2.ensures ∙ rw (c.low_word.ensures, c.put_word.ensures, c.high_word.ensures) (line-put c.args.ledger.now c.args.index c.args.line c.requires)
+unfolding line_bytes
+returns c = line-put _ _ _ _ (c.copy_from_slice.ensures.after ∙ c.to_be_bytes.ensures ∙ number-bytes _ ∙ ap (big_bytes 16) c.line_number.ensures)

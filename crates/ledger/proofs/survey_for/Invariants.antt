@@ -1,10 +1,5 @@
 use Rattle.ledger.proofs.Scanning.{Surveying}
-use Prim.Native.Nat.{◌-◌}
-use mathlib.Core.Path.{◌∙◌}
 use Rattle.ledger.proofs.survey_for.Given as goal
 
 abbrev pub invariant-loop-i : goal.invariant-loop-i
 invariant-loop-i l = Surveying l.sought l.ledger l.lines l.i l.s
-
-abbrev pub decreases-loop-i : goal.decreases-loop-i
-decreases-loop-i l = l.i

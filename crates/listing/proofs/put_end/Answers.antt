@@ -1,10 +1,10 @@
-use Rattle.listing.proofs.WritingLaws.{wrote_then}
+use Rattle.listing.proofs.WritingLaws.{wrote-before}
 use Rattle.listing.specs.Listing.{end_text}
 use Rattle.listing.proofs.put_end.Goals as goal
 
 pub returns-then-cancelled : goal.returns-then-cancelled
 unfolding end_text
-returns-then-cancelled c = rw c.if-cancelled.true (wrote_then c.put_text-end.ensures c.put_text.ensures)
+returns-then-cancelled c = rw c.if-cancelled.true (wrote-before c.put_text-end.ensures c.put_text.ensures)
 
 pub returns : goal.returns
 unfolding end_text

@@ -1,6 +1,6 @@
 use Rattle.listing.proofs.Showing.{not-shown, shown}
 use Rattle.listing.proofs.Lengths.{length-standing}
-use Rattle.listing.proofs.WritingLaws.{wrote-length, wrote_then}
+use Rattle.listing.proofs.WritingLaws.{before-length, wrote-before}
 use native.Mathlib.Omega.{arith}
 use Rattle.listing.proofs.put_listing.Goals as goal
 
@@ -9,7 +9,7 @@ returns-then-end-lines c = record { value = (not-shown _ _ _ c.if-end-lines.true
 
 pub put_lines-start-requires : goal.put_lines-start-requires
 put_lines-start-requires c = let w = c.put_standing-last.ensures in
-    (c.requires.0, omega (arith, w.place, length-standing c.args.count), omega (arith, w.place, w.room, wrote-length w), c.requires.1)
+    (c.requires.0, omega (arith, before-length w, w.place, length-standing c.args.count), c.requires.1)
 
 pub returns : goal.returns
-returns c = record { value = (shown _ (wrote_then c.put_standing-last.ensures c.put_lines-start.ensures) c.if-end-lines.false).0; out_after = (shown _ (wrote_then c.put_standing-last.ensures c.put_lines-start.ensures) c.if-end-lines.false).1 }
+returns c = record { value = (shown _ (wrote-before c.put_standing-last.ensures c.put_lines-start.ensures) c.if-end-lines.false).0; out_after = (shown _ (wrote-before c.put_standing-last.ensures c.put_lines-start.ensures) c.if-end-lines.false).1 }

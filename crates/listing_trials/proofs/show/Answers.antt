@@ -5,6 +5,6 @@ use Rattle.listing_trials.proofs.show.Goals as goal
 
 pub overflow_sub-start : goal.overflow_sub-start
 overflow_sub-start c =
-    let h = used-fits _ _ _ c.in-Listed.ensures.value in
+    let h = used-fits _ _ _ c.in-Some.ensures.value in
     let k = c.list.auto.out in
     omega arith

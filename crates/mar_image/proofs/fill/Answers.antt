@@ -1,12 +1,20 @@
+use Rattle.std.proofs.Common.{◌≡◌, ◌∙◌, sym, rules, length}
+use Rattle.lists.specs.Bytes.{zeros}
 use Rattle.byte_order.proofs.Laws.{loaded}
-use mathlib.Core.Path.{◌∙◌}
-use borrow.Author.Rules.{rules}
 use Rattle.mar_image.proofs.Laws.{filled-bad, filled-good}
 use Rattle.mar_image.proofs.fill.Goals as goal
 
-pub returns-in_default : goal.returns-in_default
-returns-in_default c = let s = c in
-    let f = filled-bad s.args.order s.args.n s.args.image.now s.args.table.now s.args.pixels.now _ _ _ (loaded _ _ _ _ s.requires.0 c.load_halves.ensures.out_after) (c.place_pairs-checked.ensures.value, c.place_pairs-checked.ensures.pixels_after) (search rules) c.in_default.is in record { value = f.0; pixels_after = c.clear.ensures ∙ f.1 }
+pub returns-then-is_err : goal.returns-then-is_err
+returns-then-is_err c =
+    let a = c.args in
+    let p = c.place_pairs-checked.ensures in
+    let f = filled-bad a.order a.n a.image.now a.table.now a.pixels.now _ _ _ (loaded _ _ _ _ c.requires.0 c.load_halves.ensures.out_after) (p.value, p.pixels_after) (search rules) (sym c.is_err.ensures.value ∙ c.if-is_err.true) in
+    let z : c.fill.new.self ≡ zeros (length c.place_pairs-checked.new.pixels) = search rules in
+    record { value = f.0; pixels_after = z ∙ f.1 }
 
-pub returns : goal.returns
-returns c = let s = c in record { value = (filled-good s.args.order s.args.n s.args.image.now s.args.table.now s.args.pixels.now _ _ _ (loaded _ _ _ _ s.requires.0 c.load_halves.ensures.out_after) (c.place_pairs-checked.ensures.value, c.place_pairs-checked.ensures.pixels_after) c.in-Good.is).0; pixels_after = (filled-good s.args.order s.args.n s.args.image.now s.args.table.now s.args.pixels.now _ _ _ (loaded _ _ _ _ s.requires.0 c.load_halves.ensures.out_after) (c.place_pairs-checked.ensures.value, c.place_pairs-checked.ensures.pixels_after) c.in-Good.is).1 }
+pub returns-else-is_err : goal.returns-else-is_err
+returns-else-is_err c =
+    let a = c.args in
+    let p = c.place_pairs-checked.ensures in
+    let f = filled-good a.order a.n a.image.now a.table.now a.pixels.now _ _ _ (loaded _ _ _ _ c.requires.0 c.load_halves.ensures.out_after) (p.value, p.pixels_after) (sym c.is_err.ensures.value ∙ c.if-is_err.false) in
+    record { value = f.0; pixels_after = f.1 }

@@ -1,22 +1,15 @@
-use Prim.Native.Nat.{◌-◌}
-use native.Mathlib.Omega.{arith}
-use lib.ListN.{get_or}
-use Rattle.overflow86.proofs.Loops.{awaiting-start, awaiting-on, awaiting-end, one-le}
+use Rattle.std.proofs.Common.{◌∙◌, arith, get_or}
+use Rattle.overflow86.proofs.Loops.{awaiting-start, awaiting-on, awaiting-end, one-le, byte-one}
 use Rattle.overflow86.proofs.await_entries.Goals as goal
 
-pub loop-i-init : goal.loop-i-init
-loop-i-init c = awaiting-start _ _
+pub loop-v-init : goal.loop-v-init
+loop-v-init c = awaiting-start _ _
 
 pub overflow_add-marks : goal.overflow_add-marks
-overflow_add-marks c = let l = c.loop-i in
-    let s = c in
-    omega (arith, c.one_if-marks.ensures, one-le s.args.mark (get_or l.pixels l.i 0))
+overflow_add-marks c = omega (arith, byte-one c.args.mark (get_or c.loop-v.pixels c.loop-v.v-index 0), one-le c.args.mark (get_or c.loop-v.pixels c.loop-v.v-index 0), c.from-marks.ensures)
 
-pub loop-i-preserved : goal.loop-i-preserved
-loop-i-preserved c = awaiting-on c.loop-i.invariant _ _ c.loop-i-test.true c.waiting_if.ensures c.one_if-marks.ensures
-
-pub shape_of-pixels : goal.shape_of-pixels
-shape_of-pixels c = c.loop-i.invariant.same
+pub loop-v-preserved : goal.loop-v-preserved
+loop-v-preserved c = awaiting-on c.loop-v.invariant _ _ (omega arith) c.waiting_if.ensures (c.from-marks.ensures ∙ byte-one _ _)
 
 pub returns : goal.returns
-returns c = record { value = (awaiting-end c.loop-i.invariant c.loop-i-test.false).0; pixels_after = (awaiting-end c.loop-i.invariant c.loop-i-test.false).1 }
+returns c = let e = awaiting-end c.loop-v.invariant (omega arith) in record { value = e.0; pixels_after = e.1 }

@@ -4,6 +4,7 @@ use native.Mathlib.Omega.{arith}
 use lib.Seq.{length-take-le}
 use Rattle.layout.specs.Layout.{image_end, text_end}
 use Rattle.layout.proofs.Laws.{bytes_le}
+use Rattle.std.proofs.lemmas.Result.{err_from_is_err_and}
 use Rattle.overflow86.proofs.Frame.{table-small, short, truncated, framed, parts-room}
 use Rattle.overflow86.proofs.expand86.Goals as goal
 
@@ -29,13 +30,23 @@ returns-then-bytes-end c = let end_is : c.args.image.start + c.pixel_count-n.res
 pub slice_bounds-fill-end-4 : goal.slice_bounds-fill-end-4
 slice_bounds-fill-end-4 c = sym (length-take-le _ _ c.if-pixels-n.false)
 
-pub fill-checked-requires : goal.fill-checked-requires
-fill-checked-requires c = let table_is : c.args.image.start + c.pixel_count-n.result * c.width_bytes.result ≡ image_end c.args.image = rw (c.pixel_count-n.ensures, c.width_bytes.ensures) in
+pub fill-requires : goal.fill-requires
+fill-requires c =
+    let table_is : c.args.image.start + c.pixel_count-n.result * c.width_bytes.result ≡ image_end c.args.image = rw (c.pixel_count-n.ensures, c.width_bytes.ensures) in
     let end_is : c.args.image.start + c.pixel_count-n.result * c.width_bytes.result + c.text_table_bytes.result ≡ text_end c.args.image c.args.count = rw (c.pixel_count-n.ensures, c.width_bytes.ensures, c.text_table_bytes.ensures) in
-    let s = c in
-    parts-room s.args.bytes.now s.args.pixels.now s.args.image s.args.count _ _ _ _ c.pixel_count-n.ensures c.if-pixels-n.false refl (table_is) (end_is) c.if-bytes-end.false
+    parts-room c.args.bytes.now c.args.pixels.now c.args.image c.args.count _ _ _ _ c.pixel_count-n.ensures c.if-pixels-n.false refl table_is end_is c.if-bytes-end.false
+
+pub returns-in_err-fill : goal.returns-in_err-fill
+returns-in_err-fill c =
+    let p = err_from_is_err_and c.from_residual.result c.from_residual.ensures.1 in
+    let table_is : c.args.image.start + c.pixel_count-n.result * c.width_bytes.result ≡ image_end c.args.image = rw (c.pixel_count-n.ensures, c.width_bytes.ensures) in
+    let end_is : c.args.image.start + c.pixel_count-n.result * c.width_bytes.result + c.text_table_bytes.result ≡ text_end c.args.image c.args.count = rw (c.pixel_count-n.ensures, c.width_bytes.ensures, c.text_table_bytes.ensures) in
+    let e = framed c.args.bytes.now c.args.pixels.now c.args.image c.args.count _ _ _ _ _ _ _ c.pixel_count-n.ensures c.if-pixels-n.false refl table_is end_is c.if-bytes-end.false (c.fill.ensures.value, c.fill.ensures.pixels_after) (rw (p.1, p.2, c.in_err-fill.was)) in
+    record { value = e.0; pixels_after = e.1 }
 
 pub returns : goal.returns
-returns c = let table_is : c.args.image.start + c.pixel_count-n.result * c.width_bytes.result ≡ image_end c.args.image = rw (c.pixel_count-n.ensures, c.width_bytes.ensures) in
+returns c =
+    let table_is : c.args.image.start + c.pixel_count-n.result * c.width_bytes.result ≡ image_end c.args.image = rw (c.pixel_count-n.ensures, c.width_bytes.ensures) in
     let end_is : c.args.image.start + c.pixel_count-n.result * c.width_bytes.result + c.text_table_bytes.result ≡ text_end c.args.image c.args.count = rw (c.pixel_count-n.ensures, c.width_bytes.ensures, c.text_table_bytes.ensures) in
-    let s = c in record { value = (framed s.args.bytes.now s.args.pixels.now s.args.image s.args.count _ _ _ _ _ _ _ c.pixel_count-n.ensures c.if-pixels-n.false refl (table_is) (end_is) c.if-bytes-end.false (c.fill-checked.ensures.value, c.fill-checked.ensures.pixels_after) c.answer_by.ensures).0; pixels_after = (framed s.args.bytes.now s.args.pixels.now s.args.image s.args.count _ _ _ _ _ _ _ c.pixel_count-n.ensures c.if-pixels-n.false refl (table_is) (end_is) c.if-bytes-end.false (c.fill-checked.ensures.value, c.fill-checked.ensures.pixels_after) c.answer_by.ensures).1 }
+    let e = framed c.args.bytes.now c.args.pixels.now c.args.image c.args.count _ _ _ _ _ _ _ c.pixel_count-n.ensures c.if-pixels-n.false refl table_is end_is c.if-bytes-end.false (c.fill.ensures.value, c.fill.ensures.pixels_after) (rw c.in_ok-fill.was) in
+    record { value = e.0; pixels_after = e.1 }

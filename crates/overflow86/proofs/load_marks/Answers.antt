@@ -1,53 +1,28 @@
-use Prim.Native.Nat.{◌-◌, ◌*◌, ◌≤◌}
-use native.Mathlib.Omega.{arith}
-use lib.ListN.{length}
+use Rattle.std.proofs.Common.{◌≡◌, ◌+◌, ◌*◌, length, min, arith}
 use Rattle.layout.specs.Form.{width_bytes}
-use Rattle.overflow86.proofs.Blocks.{blocks_start, block_room, blocks_more, blocks_end, part_bytes}
+use Rattle.overflow86.proofs.Blocks.{blocks_start, blocks_more, blocks_end}
 use Rattle.overflow86.proofs.load_marks.Goals as goal
 
-pub loop-p-init : goal.loop-p-init
-loop-p-init c = blocks_start _ _ _ _
-
-pub overflow_mul-at : goal.overflow_mul-at
-overflow_mul-at c = let start_fits : c.loop-p.p * width_bytes c.args.w ≤ length c.args.image.now = let s = c in
-    part_bytes c.loop-p.p (length s.args.pixels.now) (width_bytes s.args.w) (length s.args.image.now) c.loop-p.invariant.upto s.requires in
-    rw c.width_bytes-each.ensures (omega (arith, start_fits))
-
-pub slice_bounds-load_block-count : goal.slice_bounds-load_block-count
-slice_bounds-load_block-count c = let start_fits : c.loop-p.p * width_bytes c.args.w ≤ length c.args.image.now = let s = c in
-    part_bytes c.loop-p.p (length s.args.pixels.now) (width_bytes s.args.w) (length s.args.image.now) c.loop-p.invariant.upto s.requires in
-    rw c.width_bytes-each.ensures (omega (arith, start_fits))
-
-pub slice_bounds-load_block-start : goal.slice_bounds-load_block-start
-slice_bounds-load_block-start c = let start_fits : c.loop-p.p * width_bytes c.args.w ≤ length c.args.image.now = let s = c in
-    part_bytes c.loop-p.p (length s.args.pixels.now) (width_bytes s.args.w) (length s.args.image.now) c.loop-p.invariant.upto s.requires in
-    rw c.width_bytes-each.ensures (omega (arith, start_fits))
-
-pub load_block-marks-requires : goal.load_block-marks-requires
-load_block-marks-requires c = let s = c in
-    let l = c.loop-p in
-    let e = c.block_end-e in
-    rw c.width_bytes-each.ensures
-    (block_room (width_bytes s.args.w) s.args.mark s.args.image.now s.args.pixels.now l.pixels l.marks l.p e.result l.invariant s.requires e.ensures.0 (rw l.invariant.same at e.ensures.1))
+pub loop-block-init : goal.loop-block-init
+loop-block-init c = let e : min 0 (length c.args.pixels.now) ≡ 0 = omega arith in rw e (blocks_start _ _ _ _)
 
 pub overflow_add-marks : goal.overflow_add-marks
-overflow_add-marks c = let s = c in
-    let l = c.loop-p in
-    let e = c.block_end-e in
+overflow_add-marks c =
+    let l = c.loop-block in
+    let q : min (l.block * 64) (length c.args.pixels.now) ≡ l.block * 64 = omega arith in
     let b =
-    blocks_more (width_bytes s.args.w) s.args.mark s.args.image.now s.args.pixels.now l.pixels l.marks l.p e.result l.invariant s.requires e.ensures.0 (rw l.invariant.same at e.ensures.1) _ _
+    blocks_more (width_bytes c.args.w) c.args.mark c.args.image.now c.args.pixels.now l.pixels l.marks (l.block * 64) (l.block * 64 + c.min-n.result) (rw q at l.invariant) c.requires (omega arith) (omega arith) _ _
     (rw c.width_bytes-each.ensures at c.load_block-marks.ensures.value, rw c.width_bytes-each.ensures at c.load_block-marks.ensures.pixels_after) in
     omega (arith, b.low)
 
-pub loop-p-preserved : goal.loop-p-preserved
-loop-p-preserved c = let s = c in
-    let l = c.loop-p in
-    let e = c.block_end-e in
-    blocks_more (width_bytes s.args.w) s.args.mark s.args.image.now s.args.pixels.now l.pixels l.marks l.p e.result l.invariant s.requires e.ensures.0 (rw l.invariant.same at e.ensures.1) _ _
-    (rw c.width_bytes-each.ensures at c.load_block-marks.ensures.value, rw c.width_bytes-each.ensures at c.load_block-marks.ensures.pixels_after)
-
-pub shape_of-pixels : goal.shape_of-pixels
-shape_of-pixels c = c.loop-p.invariant.same
+pub loop-block-preserved : goal.loop-block-preserved
+loop-block-preserved c =
+    let l = c.loop-block in
+    let q : min (l.block * 64) (length c.args.pixels.now) ≡ l.block * 64 = omega arith in
+    let e : min ((l.block + 1) * 64) (length c.args.pixels.now) ≡ (l.block * 64 + c.min-n.result) = omega arith in
+    rw e
+    (blocks_more (width_bytes c.args.w) c.args.mark c.args.image.now c.args.pixels.now l.pixels l.marks (l.block * 64) (l.block * 64 + c.min-n.result) (rw q at l.invariant) c.requires (omega arith) (omega arith) _ _
+    (rw c.width_bytes-each.ensures at c.load_block-marks.ensures.value, rw c.width_bytes-each.ensures at c.load_block-marks.ensures.pixels_after))
 
 pub returns : goal.returns
-returns c = record { value = (blocks_end _ _ _ _ _ _ _ c.loop-p.invariant (omega arith)).0; pixels_after = (blocks_end _ _ _ _ _ _ _ c.loop-p.invariant (omega arith)).1 }
+returns c = let e = blocks_end _ _ _ _ _ _ _ c.loop-block.invariant (omega arith) in record { value = e.0; pixels_after = e.1 }

@@ -1,12 +1,12 @@
-use Rattle.std.proofs.Common.{◌-◌}
+use Rattle.std.proofs.Common.{refl}
 use Rattle.pixel_counts.proofs.Watching.{watching-start, watching-more, watching-done}
 use Rattle.pixel_counts.proofs.any_above.Goals as goal
 
-pub loop-i-init : goal.loop-i-init
-loop-i-init c = watching-start _ _
+pub loop-v-init : goal.loop-v-init
+loop-v-init c = watching-start _ _
 
-pub loop-i-preserved : goal.loop-i-preserved
-loop-i-preserved c = watching-more _ c.loop-i.invariant c.loop-i-test.true c.above-found.ensures
+pub loop-v-preserved : goal.loop-v-preserved
+loop-v-preserved c = watching-more _ c.loop-v.invariant c.loop-v-test.true refl
 
 pub returns : goal.returns
-returns c = watching-done c.loop-i.invariant c.loop-i-test.false
+returns c = watching-done c.loop-v.invariant c.loop-v-test.false

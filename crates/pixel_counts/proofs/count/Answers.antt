@@ -1,25 +1,24 @@
-use Rattle.std.proofs.Common.{◌+◌, ◌-◌, ◌∙◌, arith, length-drop, length-take, le-ltb, lt-ltb}
-use Rattle.pixel_counts.specs.Counts.{counted}
-use Rattle.pixel_counts.proofs.Counting.{blocks_start, blocks_more, blocks-done}
+use Rattle.std.proofs.Common.{ℕ, ◌+◌, ◌*◌, List, length, arith, le-ltb, ap, ◌∙◌}
+use Rattle.pixel_counts.specs.Counts.{counted, counts_for, counts_of}
+use Rattle.pixel_counts.proofs.Counting.{blocks_start, blocks_more, blocks-done, block_at, rest_at}
 use Rattle.pixel_counts.proofs.count.Goals as goal
 
-pub returns-then-n-gt16777216 : goal.returns-then-n-gt16777216
-unfolding counted
-returns-then-n-gt16777216 c = c.no_counts.ensures ∙ rw (lt-ltb _ _ c.if-n-gt16777216.true)
+pub loop-block-init : goal.loop-block-init
+loop-block-init c = rw c.no_counts-c.ensures (blocks_start _ _ _)
 
-pub loop-p-init : goal.loop-p-init
-loop-p-init c = rw c.no_counts-c.ensures (blocks_start _ _ _)
-
-pub count_block-d-requires : goal.count_block-d-requires
-count_block-d-requires c = simp (length-take, length-drop) (omega arith)
-
-pub loop-p-preserved : goal.loop-p-preserved
-loop-p-preserved c = blocks_more _ c.loop-p.invariant (omega arith) (omega arith) (omega arith) c.count_block-d.ensures c.add_counts-c.ensures
-
-pub count_block-d-requires-2 : goal.count_block-d-requires-2
-count_block-d-requires-2 c = simp (length-take, length-drop) (omega arith)
+pub loop-block-preserved : goal.loop-block-preserved
+loop-block-preserved c =
+    let h = c.loop-block-test.true in
+    let e = c.as_chunks.ensures in
+    blocks_more ((c.loop-block.block-index + 1) * 128) c.loop-block.invariant (omega arith) (omega (arith, h, e.front_len)) (omega arith)
+    (c.count_block.ensures ∙ rw c.from-b.ensures (ap (λ (x : List ℕ). counts_for c.args.form (counts_of c.args.base x)) (block_at 128 c.loop-block.block-index _ c.args.pixels.now _ e.front (omega (arith, h, e.front_len)))))
+    c.add_counts-c.ensures
 
 pub returns : goal.returns
 unfolding counted
-returns c = rw (le-ltb _ _ c.if-n-gt16777216.false)
-    (blocks-done (blocks_more _ c.loop-p.invariant (omega arith) (omega arith) (omega arith) c.count_block-d-2.ensures c.add_counts.ensures) (omega arith))
+returns c =
+    let h = c.loop-block-test.false in
+    let e = c.as_chunks.ensures in
+    let b = rest_at _ c.args.pixels.now _ (c.loop-block.block-index * 128) e.back (omega (arith, h, c.loop-block.auto.block-index-end, e.front_len)) in
+    rw (le-ltb _ _ c.if-pixels-gt16777216.false)
+    (blocks-done (blocks_more (length c.args.pixels.now) c.loop-block.invariant (omega (arith, h, c.loop-block.auto.block-index-end, e.front_len)) (omega arith) (omega arith) (c.count_block-2.ensures ∙ rw (c.from-b.ensures, b)) c.add_counts.ensures) (omega arith))

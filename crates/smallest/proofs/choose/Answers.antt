@@ -1,16 +1,17 @@
 use mathlib.Core.Path.{sym, ◌∙◌}
+use Rattle.std.proofs.Common.{rules}
 use Rattle.writer.specs.Writer.{writer_frame}
 use Rattle.smallest.specs.Smallest.{smallest_form}
 use Rattle.smallest.proofs.Lengths.{all-refused}
 use Rattle.smallest.proofs.choose.Goals as goal
 
 pub choose_from-requires : goal.choose_from-requires
-choose_from-requires c = sym c.read_header.ensures ∙ c.in-Accepted.is
+choose_from-requires c = sym c.read_header.ensures ∙ c.in_ok-h.was
 
-pub returns-in-Accepted : goal.returns-in-Accepted
+pub returns : goal.returns
 unfolding smallest_form writer_frame
-returns-in-Accepted c = rw (← c.read_header.ensures, c.in-Accepted.is) c.choose_from.ensures
+returns c = rw (← c.read_header.ensures, c.in_ok-h.was) c.choose_from.ensures
 
-pub returns-in-Refused : goal.returns-in-Refused
+pub returns-in_err-h : goal.returns-in_err-h
 unfolding smallest_form writer_frame
-returns-in-Refused c = rw (← c.read_header.ensures, c.in-Refused.is) (sym (all-refused _))
+returns-in_err-h c = rw (← c.read_header.ensures, c.in_err-h.was, all-refused c.in_err-h.field-0.0) (search rules)

@@ -1,29 +1,27 @@
-use mathlib.Core.Path.{sym, ◌∙◌}
-use Prim.Native.Nat.{◌+◌, ◌-◌}
-use native.Mathlib.Omega.{arith}
+use Rattle.std.proofs.Common.{◌+◌, ◌-◌, sym, ◌∙◌, arith}
 use Rattle.table.proofs.Storing.{length-little_bytes}
 use Rattle.splice.specs.Moves.{table_edited}
 use Rattle.splice.proofs.Fits.{fits-then, pad-bounds, resize-room}
 use Rattle.splice.proofs.edit.Goals as goal
 
 pub overflow_add-at : goal.overflow_add-at
-overflow_add-at c = let f = fits-then _ _ _ _ _ _ _ (sym c.edit_fits.ensures ∙ c.if-edit_fits.true) in let p = pad-bounds c.args.n in omega arith
+overflow_add-at c = let f = fits-then _ _ _ _ _ _ _ (sym c.edit_fits-fits.ensures ∙ c.if-fits.true) in let p = pad-bounds c.args.n in omega arith
 
 pub overflow_add-tail : goal.overflow_add-tail
-overflow_add-tail c = let f = fits-then _ _ _ _ _ _ _ (sym c.edit_fits.ensures ∙ c.if-edit_fits.true) in let p = pad-bounds c.args.n in omega arith
+overflow_add-tail c = let f = fits-then _ _ _ _ _ _ _ (sym c.edit_fits-fits.ensures ∙ c.if-fits.true) in let p = pad-bounds c.args.n in omega arith
 
 pub overflow_sub-tail : goal.overflow_sub-tail
-overflow_sub-tail c = (fits-then _ _ _ _ _ _ _ (sym c.edit_fits.ensures ∙ c.if-edit_fits.true)).0
+overflow_sub-tail c = (fits-then _ _ _ _ _ _ _ (sym c.edit_fits-fits.ensures ∙ c.if-fits.true)).0
 
 pub padded_len-requires : goal.padded_len-requires
-padded_len-requires c = let f = fits-then _ _ _ _ _ _ _ (sym c.edit_fits.ensures ∙ c.if-edit_fits.true) in let p = pad-bounds c.args.n in omega arith
+padded_len-requires c = let f = fits-then _ _ _ _ _ _ _ (sym c.edit_fits-fits.ensures ∙ c.if-fits.true) in let p = pad-bounds c.args.n in omega arith
 
 pub overflow_sub-z : goal.overflow_sub-z
 overflow_sub-z c = rw c.padded_len.ensures (pad-bounds c.args.n).0
 
 pub resize-requires : goal.resize-requires
 resize-requires c = let a = c.args in
-    let f = fits-then _ _ _ _ _ _ _ (sym c.edit_fits.ensures ∙ c.if-edit_fits.true) in
+    let f = fits-then _ _ _ _ _ _ _ (sym c.edit_fits-fits.ensures ∙ c.if-fits.true) in
     let p = pad-bounds a.n in
     record {
       z_bound = rw c.padded_len.ensures (omega arith, f.1, f.2);
@@ -33,13 +31,10 @@ resize-requires c = let a = c.args in
 
 pub put_le-requires : goal.put_le-requires
 put_le-requires c = let a = c.args in
-    let f = fits-then _ _ _ _ _ _ _ (sym c.edit_fits.ensures ∙ c.if-edit_fits.true) in
+    let f = fits-then _ _ _ _ _ _ _ (sym c.edit_fits-fits.ensures ∙ c.if-fits.true) in
     let p = pad-bounds (a.n - a.old + a.w) in
     omega arith
 
-pub returns-then-edit_fits : goal.returns-then-edit_fits
+pub returns-then-fits-clause-a_after : goal.returns-then-fits-clause-a_after
 unfolding table_edited
-returns-then-edit_fits c = let e = sym c.edit_fits.ensures ∙ c.if-edit_fits.true in record { value = sym e; a_after = rw (e, length-little_bytes) (cc) }
-
-pub returns : goal.returns
-returns c = let e = sym c.edit_fits.ensures ∙ c.if-edit_fits.false in record { value = sym e; a_after = rw e }
+returns-then-fits-clause-a_after c = let e = sym c.edit_fits-fits.ensures ∙ c.if-fits.true in rw (e, length-little_bytes) (cc)

@@ -1,32 +1,28 @@
-use mathlib.Core.Path.{◌∙◌}
-use Prim.Native.Nat.{◌-◌}
-use lib.ListN.{length-take, length-drop}
-use borrow.Author.Tests.{lt-ltb, le-ltb}
+use Rattle.std.proofs.Common.{ℕ, ◌+◌, ◌*◌, List, length, arith, le-ltb, ap, ◌∙◌}
 use Rattle.layout.specs.declared.Width.TheVariants as W
 use Rattle.layout.specs.declared.Underflow.TheVariants as U
-use Rattle.pixel_counts.specs.Counts.{counted}
-use Rattle.pixel_counts.proofs.Counting.{blocks_start, blocks_more, blocks-done}
+use Rattle.layout.specs.Form.{form_of}
+use Rattle.pixel_counts.specs.Counts.{counted, counts_for, counts_of}
+use Rattle.pixel_counts.proofs.Counting.{blocks_start, blocks_more, blocks-done, block_at, rest_at}
 use Rattle.survey.specs.Survey.{surveyed_none}
-use native.Mathlib.Omega.{arith}
 use Rattle.survey.proofs.survey_none.Goals as goal
 
-pub returns-then-n-gt16777216 : goal.returns-then-n-gt16777216
-unfolding surveyed_none counted
-returns-then-n-gt16777216 c = c.no_survey.ensures ∙ rw (lt-ltb _ _ c.if-n-gt16777216.true)
+pub loop-block-init : goal.loop-block-init
+loop-block-init c = rw c.no_counts-c.ensures (blocks_start _ _ _)
 
-pub loop-p-init : goal.loop-p-init
-loop-p-init c = rw c.no_counts-c.ensures (blocks_start _ _ _)
-
-pub count_none-d-requires : goal.count_none-d-requires
-count_none-d-requires c = simp (length-take, length-drop) (omega arith)
-
-pub loop-p-preserved : goal.loop-p-preserved
-loop-p-preserved c = blocks_more _ c.loop-p.invariant (omega arith) (omega arith) (omega arith) c.count_none-d.ensures c.add_counts-c.ensures
-
-pub count_none-d-requires-2 : goal.count_none-d-requires-2
-count_none-d-requires-2 c = simp (length-take, length-drop) (omega arith)
+pub loop-block-preserved : goal.loop-block-preserved
+loop-block-preserved c =
+    let h = c.loop-block-test.true in
+    let e = c.as_chunks.ensures in
+    blocks_more ((c.loop-block.block-index + 1) * 1024) c.loop-block.invariant (omega arith) (omega (arith, h, e.front_len)) (omega arith)
+    (c.count_none-d.ensures ∙ ap (λ (x : List ℕ). counts_for (form_of W.One U.None) (counts_of 0 x)) (block_at 1024 c.loop-block.block-index _ c.args.pixels.now _ e.front (omega (arith, h, e.front_len))))
+    c.add_counts-c.ensures
 
 pub returns : goal.returns
 unfolding surveyed_none counted
-returns c = let none = blocks-done (blocks_more _ c.loop-p.invariant (omega arith) (omega arith) (omega arith) c.count_none-d-2.ensures c.add_counts-none.ensures) (omega arith) in
-    rw (le-ltb _ _ c.if-n-gt16777216.false, c.no_counts.ensures, none)
+returns c =
+    let h = c.loop-block-test.false in
+    let e = c.as_chunks.ensures in
+    let b = rest_at _ c.args.pixels.now _ (c.loop-block.block-index * 1024) e.back (omega (arith, h, c.loop-block.auto.block-index-end, e.front_len)) in
+    let none = blocks-done (blocks_more (length c.args.pixels.now) c.loop-block.invariant (omega (arith, h, c.loop-block.auto.block-index-end, e.front_len)) (omega arith) (omega arith) (c.count_none-d-2.ensures ∙ rw b) c.add_counts.ensures) (omega arith) in
+    rw (le-ltb _ _ c.if-pixels-gt16777216.false, c.no_counts.ensures, none)

@@ -1,35 +1,19 @@
-use Rattle.std.proofs.Common.{◌≡◌, ℕ, ◌-◌, ◌*◌, ◌≤◌, refl, arith}
+use Rattle.std.proofs.Common.{◌≡◌, ◌+◌, ◌-◌, ◌*◌, ◌/◌, ◌%◌, length, refl, arith}
 use Rattle.layout.specs.Form.{width_bytes}
 use Rattle.table.specs.Table.{entries}
-use Rattle.lists.proofs.Halves.{halves-start, written-more, written-end}
+use Rattle.lists.proofs.Halves.{written-more, written-end}
 use Rattle.table.proofs.Laws.{length-entries}
 use Rattle.table.proofs.load_both.Goals as goal
 
--- the places stay as many, so t has entries for them
-still : (w : ℕ) {a b m : ℕ} → a ≡ b → b * w ≤ m → a * w ≤ m
-still w e h = rw e h
-
-pub loop-p-init : goal.loop-p-init
-loop-p-init c = halves-start _ _ _
-
-pub load_part-requires : goal.load_part-requires
-load_part-requires c = (omega arith, omega arith, still _ (omega arith) c.requires)
-
-pub load_part-requires-in-loop-p : goal.load_part-requires-in-loop-p
-load_part-requires-in-loop-p c = (omega arith, omega arith, still _ (omega arith) c.requires)
-
-pub loop-p-preserved : goal.loop-p-preserved
-loop-p-preserved c = let s = c in
-    let l = c.loop-p in
-    written-more (λ n. entries (width_bytes s.args.w) n s.args.t.now) s.args.out.now l.out _ _ _ l.p _ _ (length-entries _ _ _) l.invariant (omega arith) (omega arith) (omega arith) (omega arith) c.load_part.ensures c.load_part-in-loop-p.ensures (omega arith)
-
-pub load_part-requires-2 : goal.load_part-requires-2
-load_part-requires-2 c = (omega arith, omega arith, still _ (omega arith) c.requires)
-
-pub load_part-requires-3 : goal.load_part-requires-3
-load_part-requires-3 c = (omega arith, omega arith, still _ (omega arith) c.requires)
+pub loop-block-preserved : goal.loop-block-preserved
+loop-block-preserved c =
+    let b = c.loop-block.block in
+    let e : (b + 1) * 256 ≡ b * 256 + 256 = omega arith in
+    rw e
+    (written-more (λ n. entries (width_bytes c.args.w) n c.args.t.now) c.args.out.now c.loop-block.out _ _ _ (b * 256) (b * 256 + 256) _ (length-entries _ _ _) c.loop-block.invariant (omega arith) (omega arith) (omega arith) (omega arith) c.load_part.ensures c.load_part-in-loop-block.ensures (omega arith))
 
 pub returns : goal.returns
-returns c = let s = c in
-    let l = c.loop-p in
-    written-end (λ n. entries (width_bytes s.args.w) n s.args.t.now) s.args.out.now l.out _ _ _ l.p _ _ (length-entries _ _ _) l.invariant l.invariant.upto (omega arith) (omega arith) (omega arith) c.load_part-2.ensures c.load_part-3.ensures refl refl
+returns c =
+    let half = length c.args.out.now / 2 in
+    let e : c.loop-block.block * 256 ≡ half - half % 256 = omega arith in
+    written-end (λ n. entries (width_bytes c.args.w) n c.args.t.now) c.args.out.now c.loop-block.out _ _ half (half - half % 256) half _ (length-entries _ _ _) (rw e at c.loop-block.invariant) (omega arith) (omega arith) (omega arith) (omega arith) c.load_part-2.ensures c.load_part-3.ensures refl refl

@@ -1,41 +1,28 @@
-use Rattle.std.proofs.Common.{◌*◌, ◌≤◌, length, mul-le-mul_right, arith}
+use Rattle.std.proofs.Common.{◌≡◌, ℕ, ◌*◌, ◌≤◌, mul-le-mul_right, arith}
 use Rattle.table.proofs.Storing.{part-stored}
 use Rattle.table.proofs.store_part.Goals as goal
 
 -- the part lies within out
-inside : (c : goal.After-width_bytes-each)
-    → (c.args.p * c.width_bytes-each.result ≤ c.args.e * c.width_bytes-each.result) × (c.args.e * c.width_bytes-each.result ≤ length c.args.out.now)
-inside c =
-    let s = c in
-    (mul-le-mul_right c.width_bytes-each.result s.requires.0, rw (s.requires.2, ← c.width_bytes-each.ensures) (mul-le-mul_right c.width_bytes-each.result s.requires.1))
+inside : {p e n m r w : ℕ} → r ≡ w → p ≤ e → e ≤ n → m ≡ n * w → (p * r ≤ e * r) × (e * r ≤ m)
+inside {p} {e} {n} {m} {r} {w} q h k l = (mul-le-mul_right r h, rw (l, ← q) (mul-le-mul_right r k))
 
 pub overflow_mul-a : goal.overflow_mul-a
-overflow_mul-a c = let inside : (c.args.p * c.width_bytes-each.result ≤ c.args.e * c.width_bytes-each.result) × (c.args.e * c.width_bytes-each.result ≤ length c.args.out.now) = let s = c in
-    (mul-le-mul_right c.width_bytes-each.result s.requires.0, rw (s.requires.2, ← c.width_bytes-each.ensures) (mul-le-mul_right c.width_bytes-each.result s.requires.1)) in
-    omega (arith, inside)
+overflow_mul-a c = omega (arith, inside c.width_bytes-each.ensures c.requires.0 c.requires.1 c.requires.2)
 
 pub overflow_mul-b : goal.overflow_mul-b
-overflow_mul-b c = let inside : (c.args.p * c.width_bytes-each.result ≤ c.args.e * c.width_bytes-each.result) × (c.args.e * c.width_bytes-each.result ≤ length c.args.out.now) = let s = c in
-    (mul-le-mul_right c.width_bytes-each.result s.requires.0, rw (s.requires.2, ← c.width_bytes-each.ensures) (mul-le-mul_right c.width_bytes-each.result s.requires.1)) in
-    omega (arith, inside)
+overflow_mul-b c = omega (arith, inside c.width_bytes-each.ensures c.requires.0 c.requires.1 c.requires.2)
 
 pub slice_bounds-store-count-2 : goal.slice_bounds-store-count-2
-slice_bounds-store-count-2 c = let inside : (c.args.p * c.width_bytes-each.result ≤ c.args.e * c.width_bytes-each.result) × (c.args.e * c.width_bytes-each.result ≤ length c.args.out.now) = let s = c in
-    (mul-le-mul_right c.width_bytes-each.result s.requires.0, rw (s.requires.2, ← c.width_bytes-each.ensures) (mul-le-mul_right c.width_bytes-each.result s.requires.1)) in
-    omega (arith, inside)
+slice_bounds-store-count-2 c = omega (arith, inside c.width_bytes-each.ensures c.requires.0 c.requires.1 c.requires.2)
 
 pub slice_bounds-store-start-2 : goal.slice_bounds-store-start-2
-slice_bounds-store-start-2 c = let inside : (c.args.p * c.width_bytes-each.result ≤ c.args.e * c.width_bytes-each.result) × (c.args.e * c.width_bytes-each.result ≤ length c.args.out.now) = let s = c in
-    (mul-le-mul_right c.width_bytes-each.result s.requires.0, rw (s.requires.2, ← c.width_bytes-each.ensures) (mul-le-mul_right c.width_bytes-each.result s.requires.1)) in
-    omega (arith, inside)
+slice_bounds-store-start-2 c = omega (arith, inside c.width_bytes-each.ensures c.requires.0 c.requires.1 c.requires.2)
 
 pub slice_bounds-store-end-2 : goal.slice_bounds-store-end-2
-slice_bounds-store-end-2 c = let inside : (c.args.p * c.width_bytes-each.result ≤ c.args.e * c.width_bytes-each.result) × (c.args.e * c.width_bytes-each.result ≤ length c.args.out.now) = let s = c in
-    (mul-le-mul_right c.width_bytes-each.result s.requires.0, rw (s.requires.2, ← c.width_bytes-each.ensures) (mul-le-mul_right c.width_bytes-each.result s.requires.1)) in
-    omega (arith, inside)
+slice_bounds-store-end-2 c = omega (arith, inside c.width_bytes-each.ensures c.requires.0 c.requires.1 c.requires.2)
 
 pub returns : goal.returns
-returns c = let s = c in
+returns c =
     let w = c.width_bytes-each in
     rw (← w.ensures)
-    (part-stored w.result s.args.values.now s.args.out.now _ s.args.p s.args.e s.requires.0 s.requires.1 (rw (← w.ensures) at s.requires.2) (rw (← w.ensures) at c.store.ensures.out_after))
+    (part-stored w.result c.args.values.now c.args.out.now _ c.args.p c.args.e c.requires.0 c.requires.1 (rw (← w.ensures) at c.requires.2) (rw (← w.ensures) at c.store.ensures.out_after))

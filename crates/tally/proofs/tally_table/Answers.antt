@@ -10,4 +10,4 @@ overflow_cast-mark c = let a = c.args in
 pub returns-then-holds_bytes : goal.returns-then-holds_bytes
 returns-then-holds_bytes c = let a = c.args in
     let h = holds_of a.mark a.low a.high c.holds_bytes.result c.holds_bytes.ensures c.if-holds_bytes.true in
-    rw c.in-One.is (c.tally_bytes.ensures ∙ sym (bytes-are a.mark a.low a.high a.t.now (λ i. omega (arith, c.shared_slice_known-1.given i)) h.1 h.2))
+    rw c.in-One.is (c.tally_bytes.ensures ∙ sym (bytes-are a.mark a.low a.high a.t.now (λ i. omega (arith, c.type_inv.t i)) h.1 h.2))

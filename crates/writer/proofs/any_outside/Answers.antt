@@ -1,21 +1,14 @@
-use Rattle.std.proofs.Common.{◌-◌, sym, ◌∙◌, ⊎_elim}
-use Rattle.writer.specs.Blocks.{is_outside}
-use Rattle.writer.proofs.Runs.{looking-start, looking-hit, looking-miss, looking-done}
-use Rattle.writer.proofs.any_outside.Goals.{else-is_outside, then-is_outside}
+use Rattle.writer.proofs.Runs.{looking-start, looking-more, looking-done}
 use Rattle.writer.proofs.any_outside.Goals as goal
 
-pub loop-i-init : goal.loop-i-init
-loop-i-init c = looking-start _ _
+pub loop-v-init : goal.loop-v-init
+loop-v-init c = looking-start _ _
 
-pub is_outside-requires : goal.is_outside-requires
-is_outside-requires c = c.requires
+pub is_outside-found-requires : goal.is_outside-found-requires
+is_outside-found-requires c = c.requires
 
-pub loop-i-preserved : goal.loop-i-preserved
-loop-i-preserved c = let h = c.loop-i-test.true in
-    elim c.if-is_outside.branch [
-      | then-is_outside w ↦ rw w.found-is (looking-hit h)
-      | else-is_outside w ↦ rw w.found-is (looking-miss c.loop-i.invariant h (sym c.is_outside.ensures ∙ w.if-is_outside.false))
-    ]
+pub loop-v-preserved : goal.loop-v-preserved
+loop-v-preserved c = looking-more _ c.loop-v.invariant c.loop-v-test.true c.is_outside-found.ensures
 
 pub returns : goal.returns
-returns c = looking-done c.loop-i.invariant c.loop-i-test.false
+returns c = looking-done c.loop-v.invariant c.loop-v-test.false

@@ -1,4 +1,4 @@
-use Rattle.std.proofs.Common.{◌-◌, leb, map, length, ◌∙◌}
+use Rattle.std.proofs.Common.{leb, map}
 use Rattle.lists.proofs.Writing.{Writing}
 use Rattle.writer.specs.Blocks.{capped}
 use Rattle.lists.proofs.Only.{Counting}
@@ -6,6 +6,3 @@ use Rattle.writer.proofs.cap_into.Given as goal
 
 abbrev pub invariant-loop-i : goal.invariant-loop-i
 invariant-loop-i l = Counting (leb l.limit) l.s l.k l.i × Writing (map (capped l.limit) l.s) l.initial.out l.out l.i
-
-abbrev pub decreases-loop-i : goal.decreases-loop-i
-decreases-loop-i l = length l.s - l.i

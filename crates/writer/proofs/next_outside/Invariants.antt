@@ -1,9 +1,6 @@
-use Rattle.std.proofs.Common.{◌-◌, length}
+use Rattle.std.proofs.Common.{◌+◌, ◌*◌}
 use Rattle.writer.specs.Blocks.{is_outside, Without}
 use Rattle.writer.proofs.next_outside.Given as goal
 
-abbrev pub invariant-loop-q : goal.invariant-loop-q
-invariant-loop-q l = Without (is_outside l.k) l.s l.p l.q
-
-abbrev pub decreases-loop-q : goal.decreases-loop-q
-decreases-loop-q l = length l.s - l.q
+abbrev pub invariant-loop-i : goal.invariant-loop-i
+invariant-loop-i l = Without (is_outside l.k) l.s l.p (l.p + l.i * 16)

@@ -7,7 +7,7 @@ pub store_two-requires : goal.store_two-requires
 store_two-requires c = rw c.in-Two.is at c.requires
 
 pub store_four-requires : goal.store_four-requires
-store_four-requires c = rw c.in-Four.is at c.requires.3
+store_four-requires c = rw c.in-Four.is at c.requires.1
 
 pub returns-in-One : goal.returns-in-One
 returns-in-One c = record { value = rw c.in-One.is (c.store_one.ensures.value); out_after = rw c.in-One.is (c.store_one.ensures.out_after) }

@@ -1,4 +1,4 @@
-use Rattle.std.proofs.Common.{sym, refl, ◌∙◌, length-take-le, le-ltb, lt-ltb}
+use Rattle.std.proofs.Common.{sym, refl, length-take-le, le-ltb, lt-ltb}
 use Rattle.header.proofs.Accepted.{accepted-bounds}
 use Rattle.writer.proofs.Whole.{sized_of}
 use Rattle.writer.proofs.write_accepted.Goals as goal

@@ -19,15 +19,15 @@ returns-in_default c = rw (← c.run_end-stop.ensures, lt-leb _ _ c.if-text-stop
 pub overflow_add-result : goal.overflow_add-result
 overflow_add-result c = let a = c.args in
     let stop = c.run_end-stop.result in
-    let w = found_inside (sym c.in-Found.is ∙ c.word_of.ensures) in
+    let w = found_inside (sym c.in-Some.is ∙ c.word_of.ensures) in
     omega (arith, length-take (stop - a.self.at) (drop a.self.at a.text.now))
 
 pub overflow_add-result-2 : goal.overflow_add-result-2
 overflow_add-result-2 c = let a = c.args in
     let stop = c.run_end-stop.result in
-    let w = found_inside (sym c.in-Found.is ∙ c.word_of.ensures) in
+    let w = found_inside (sym c.in-Some.is ∙ c.word_of.ensures) in
     omega (arith, length-take (stop - a.self.at) (drop a.self.at a.text.now))
 
 pub returns : goal.returns
 unfolding item_from
-returns c = rw (add-one, ← c.run_end-stop.ensures, lt-leb _ _ c.if-text-stop.false, ← c.word_of.ensures, c.in-Found.is)
+returns c = rw (add-one, ← c.run_end-stop.ensures, lt-leb _ _ c.if-text-stop.false, ← c.word_of.ensures, c.in-Some.is)

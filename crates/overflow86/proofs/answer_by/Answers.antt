@@ -1,7 +1,0 @@
-use Rattle.overflow86.proofs.answer_by.Goals as goal
-
-pub returns-in-Good : goal.returns-in-Good
-returns-in-Good c = rw c.in-Good.is
-
-pub returns-in-Refused : goal.returns-in-Refused
-returns-in-Refused c = rw c.in-Refused.is

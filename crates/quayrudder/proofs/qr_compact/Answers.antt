@@ -1,6 +1,0 @@
-use Rattle.ledger_report.specs.Report.{ledger_result}
-use mathlib.Core.Path.{ap, ◌∙◌}
-use Rattle.quayrudder.proofs.qr_compact.Goals as goal
-
-pub returns : goal.returns
-returns c = record { value = c.ledger_result.ensures ∙ ap (ledger_result _) c.compact.ensures.value; ledger_after = c.compact.ensures.ledger_after }

@@ -1,7 +1,0 @@
-use mathlib.Core.Path.{refl}
-use Rattle.lists.specs.Bytes.{padded_to}
-use Rattle.splice.proofs.padded_len.Goals as goal
-
-pub returns : goal.returns
-unfolding padded_to
-returns c = refl
