@@ -11,7 +11,6 @@ use lib.Seq.{take-add, take-take, drop_at, take-append-le, length-take-le, get_o
 use lib.Dec.{eqb, ltb}
 use borrow.Author.Tests.{lt-ltb, le-ltb, ltb-true, ltb-false, eq-eqb, ne_eqb}
 use Rattle.std.specs.Prelude.{if◌then◌else◌, None, Option, Some}
-use Rattle.std.specs.List.{copy_within}
 use Rattle.lists.specs.Bytes.{big}
 use Rattle.ledger.specs.declared.Line.{Line}
 use Rattle.ledger.specs.Lines.{line_bytes, lines_bytes, line_of, fields_of, lines_of, bytes_at, some_malformed}
@@ -80,11 +79,6 @@ part_small t j small i = go (ltb i 16) refl
     go false e =
         let h : length (bytes_at t j) ≤ i = omega (arith, length-take 16 (drop (j * 16) t), ltb-false i 16 e) in
         rw (get_or-eq_default (bytes_at t j) 0 h) (omega arith)
-
--- as std has it
-pub copied-is : (t : List ℕ) (j to : ℕ) → copy_within t (j * 16) (j * 16 + 16) to ≡ moved t (j * 16) to 16
-unfolding moved
-copied-is t j to = let n : j * 16 + 16 - j * 16 ≡ 16 = omega arith in rw (n, append_assoc)
 
 -- copied to place k, they are the line written there
 copied-line : (t : List ℕ) (j k : ℕ) (l : Line) → line_bytes l ≡ bytes_at t j → moved t (j * 16) (k * 16) 16 ≡ with_line t k l

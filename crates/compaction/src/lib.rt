@@ -23,7 +23,7 @@ fn gather(ledger: &mut [u8], lines: usize) -> usize
             skip -= 1;
         } else {
             to -= 1;
-            ledger.copy_within(i * 16..i * 16 + 16, to * 16);
+            splice::copy_within(ledger, i * 16, to * 16, 16);
         }
     }
     to

@@ -45,7 +45,7 @@ fn put_number(n: u32, out: &mut [u8])
     requires { length out.old ≡ 24 }
     ensures { out.new ≡ cell (decimal n) }
 {
-    out.fill(b' ');
+    table::fill(out, b' ');
     put_digits(n, 10, out);
 }
 
@@ -57,7 +57,7 @@ fn put_underflow_count(u: Underflow, n: u32, out: &mut [u8])
 {
     match u {
         Underflow::None => {
-            out.fill(b' ');
+            table::fill(out, b' ');
             out[..2].copy_from_slice(b"-1");
         }
         Underflow::Subtracted(_) => put_number(n, out),
@@ -79,7 +79,7 @@ fn put_npixelb(form: Form, out: &mut [u8])
     requires { length out.old ≡ 72 }
     ensures { out.new ≡ npixelb_data form }
 {
-    out.fill(b' ');
+    table::fill(out, b' ');
     put_number(layout::width_bytes(form.width) as u32, &mut out[0..24]);
     put_number(layout::underflow_bytes(form.underflow), &mut out[24..48]);
 }

@@ -12,7 +12,7 @@ fn clear(a: &mut [u8], at: usize, k: usize)
     ensures { a.new ≡ over at (zeros k) a.old }
 {
     let end = at + k;
-    a[at..end].fill(0);
+    table::fill(&mut a[at..end], 0);
 }
 
 // Moves the n bytes at `at` up by k, and clears the k bytes before them.

@@ -685,7 +685,7 @@ impl Storage {
     {
         let start = at.image;
         let end = at.under;
-        out[end..].fill(0);
+        table::fill(&mut out[end..], 0);
         self.store_pixels(pixels, c, out, at);
         put_header(header, self.form, c, &mut out[..start]);
     }

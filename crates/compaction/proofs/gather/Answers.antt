@@ -1,6 +1,8 @@
+use Rattle.std.specs.Prelude.{◌*◌, ◌-◌}
 use native.Mathlib.Omega.{arith}
 use Rattle.std.proofs.Common.{rules}
-use Rattle.compaction.proofs.Gathering.{gathering-start, gathering-small, gathering-back, gathering-skip, gathering-stay, gathering-done, copied-is}
+use Rattle.compaction.proofs.Gathering.{gathering-start, gathering-small, gathering-back, gathering-skip, gathering-stay, gathering-done}
+use Rattle.splice.proofs.Fits.{copy-fits}
 use Rattle.compaction.proofs.gather.Goals as goal
 
 pub loop-i-init : goal.loop-i-init
@@ -32,7 +34,7 @@ overflow_mul-to c = let f = c.loop-i.invariant in omega (arith, f.fits, f.upto, 
 
 pub loop-i-preserved : goal.loop-i-preserved
 loop-i-preserved c = let f = c.loop-i.invariant in
-    rw (c.copy_within.ensures.after, copied-is)
+    rw (c.copy_within.ensures, copy-fits c.loop-i.ledger ((c.loop-i.i - 1) * 16) ((c.loop-i.to - 1) * 16) 16 (omega (arith, f.fits, f.upto, f.count, f.size)) (omega (arith, f.fits, f.upto, f.count, f.size)))
     (gathering-stay f _ (omega arith) (λ k. search rules) c.if-ledger-i-eq2.false c.if-skip-gt0.false)
 
 pub shape_of-ledger : goal.shape_of-ledger

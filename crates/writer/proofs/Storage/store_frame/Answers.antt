@@ -14,8 +14,8 @@ store_pixels-requires c = let k = inside _ _ _ _ _ c.requires.3 c.requires.4 in
     record {
       used = c.requires.1;
       places = self-placed (length c.args.header.now) c.args.self.form (stored_for c.args.self.form c.args.self.base c.args.pixels.now) c.args.at c.requires.3 k.image;
-      whole = rw (k.image, cleared-length c.args.out.now c.fill.new.self c.args.at.under k.reach (c.fill.ensures.after (λ y e. e))) c.requires.4;
-      clear = blocks-ready _ _ _ _ _ _ k (c.fill.ensures.after (λ y e. e));
+      whole = rw (k.image, cleared-length c.args.out.now c.fill.new.out c.args.at.under k.reach c.fill.ensures) c.requires.4;
+      clear = blocks-ready _ _ _ _ _ _ k c.fill.ensures;
       low = c.requires.5;
     }
 
@@ -30,5 +30,5 @@ put_header-requires c = let k = inside _ _ _ _ _ c.requires.3 c.requires.4 in (p
 
 pub returns : goal.returns
 returns c = let k = inside _ _ _ _ _ c.requires.3 c.requires.4 in
-    let m = cleared-length c.args.out.now c.fill.new.self c.args.at.under k.reach (c.fill.ensures.after (λ y e. e)) in
+    let m = cleared-length c.args.out.now c.fill.new.out c.args.at.under k.reach c.fill.ensures in
     held-is _ _ _ _ _ _ _ _ _ c.requires.0 c.requires.2 k.image (rw m (omega (arith, k.reach, k.image, k.under))) m c.put_header.ensures c.store_pixels.ensures
