@@ -1,6 +1,7 @@
 -- What request A2 says of reading as theorems on the definitions that `read` meets.
 -- Assumes nothing.
 use Rattle.layout.specs.Layout.{frame_read}
+use Rattle.layout.specs.declared.Frame.{Frame}
 use Rattle.marks.specs.declared.Entry.{Entry}
 use Rattle.std.specs.Prelude.{Err, Ok, Result, Option}
 use mathlib.Core.Path.{◌≡◌, refl, sym, ◌∙◌}
@@ -33,7 +34,7 @@ answer-refused : (s : Side) (end : ℕ) {r : Refusal} (c : Result (Unit {0}) Ref
 answer-refused s end (Ok tt) q = absurd (let y : ◌≡◌ {A = ℕ} 0 1 = cc in omega arith)
 answer-refused s end (Err x) q = cc
 
-answer-plate : (s : Side) (end : ℕ) {m e : ℕ} (c : Result (Unit {0}) Refusal) → answer_by s end c ≡ Ok (frame_read m m e) → c ≡ (Ok tt)
+answer-plate : (s : Side) (end : ℕ) {f : Frame} (c : Result (Unit {0}) Refusal) → answer_by s end c ≡ Ok f → c ≡ (Ok tt)
 answer-plate s end (Ok tt) q = refl
 answer-plate s end (Err x) q = absurd (let y : ◌≡◌ {A = ℕ} 0 1 = cc in omega arith)
 
@@ -74,13 +75,13 @@ module _ (bytes px : List ℕ) (h : MarHeader) (header : mar_header bytes ≡ Ok
     pub stand : Standing W.Two (stored_image bytes h) (stored_pairs bytes h)
     pub pixels : mar_pixels bytes px ≡ with_entries 65535 W.Two (stored_pairs bytes h) 0 (stored_image bytes h) ++ drop (plate_pixel_count h.side) px
 
-  pub accepted : {side end : ℕ} → mar_answer bytes (length px) ≡ Ok (frame_read side side end) → Accepted
+  pub accepted : {f : Frame} → mar_answer bytes (length px) ≡ Ok f → Accepted
   unfolding mar_answer mar_pixels image_answer image_pixels plate_pixels
-  accepted {side} {end} a = go (ltb (length px) (plate_pixel_count h.side)) refl (ltb (length bytes) (plate_end h)) refl
+  accepted {f} a = go (ltb (length px) (plate_pixel_count h.side)) refl (ltb (length bytes) (plate_end h)) refl
     where
       go : (b : Bool) → ltb (length px) (plate_pixel_count h.side) ≡ b → (d : Bool) → ltb (length bytes) (plate_end h) ≡ d → Accepted
-      go true p d q = absurd (let z : Err R.PixelArrayShort ≡ Ok (frame_read side side end) = rw (header, p) at a in let y : ◌≡◌ {A = ℕ} 0 1 = cc in omega arith)
-      go false p true q = absurd (let z : Err R.DataTruncated ≡ Ok (frame_read side side end) = rw (header, p, q) at a in let y : ◌≡◌ {A = ℕ} 0 1 = cc in omega arith)
+      go true p d q = absurd (let z : Err R.PixelArrayShort ≡ Ok f = rw (header, p) at a in let y : ◌≡◌ {A = ℕ} 0 1 = cc in omega arith)
+      go false p true q = absurd (let z : Err R.DataTruncated ≡ Ok f = rw (header, p, q) at a in let y : ◌≡◌ {A = ℕ} 0 1 = cc in omega arith)
       go false p false q =
           let g : checked_pairs (stored_image bytes h) (stored_pairs bytes h) ≡ (Ok tt) = answer-plate h.side (plate_end h) (checked_pairs (stored_image bytes h) (stored_pairs bytes h)) (rw (header, p, q) at a) in
           record {

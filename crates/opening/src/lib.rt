@@ -2,7 +2,8 @@
 #![tactic(auto)]
 
 ghost use Rattle.std.specs.Prelude.{◌≡◌, length, Some};
-ghost use Rattle.opening.specs.Open.{open_answer, open_pixels, open_held, chosen_form, smallest_opened};
+ghost use Rattle.writer.specs.Writer.{write_answer, write_bytes};
+ghost use Rattle.opening.specs.Open.{opened, open_answer, open_pixels, open_held, chosen_form, smallest_opened};
 
 use layout::{Form, Frame};
 use refusal::Refusal;
@@ -21,8 +22,26 @@ pub struct FormOpened {
     pub answer: Result<Opened, Refusal>,
 }
 
-// Reads a frame into the pixel array and writes it into the held buffer, in the form asked for. The reader's answer is taken apart by
-// let .. else (document 01, list of forms by place); the writer's is handed on as it is.
+// Writes what was read into the held buffer. Here and below the writer's answer and the reader's are taken apart by let .. else
+// (document 01, list of forms by place).
+fn hold(frame: &[u8], size: Frame, pixels: &[u32], asked: Option<Form>, held: &mut [u8]) -> Opened
+    ensures value { result ≡ opened size (write_answer frame.now asked pixels.now (length held.old)) }
+    ensures held_after { held.new ≡ write_bytes frame.now asked pixels.now held.old }
+{
+    let written = writer::write(frame, pixels, asked, held);
+    let Ok(length) = written else {
+        return Opened {
+            frame: size,
+            held: Err(refusal::refusal_of(written)),
+        };
+    };
+    Opened {
+        frame: size,
+        held: Ok(length),
+    }
+}
+
+// Reads a frame into the pixel array and writes it into the held buffer, in the form asked for.
 #[tactic(auto, unfolding(crate::specs::Open::open_answer, crate::specs::Open::open_held))]
 pub fn open(
     frame: &[u8],
@@ -38,11 +57,7 @@ pub fn open(
     let Ok(size) = read else {
         return Err(refusal::refusal_of(read));
     };
-    let written = writer::write(frame, pixels, asked, held);
-    Ok(Opened {
-        frame: size,
-        held: written,
-    })
+    Ok(hold(frame, size, pixels, asked, held))
 }
 
 // The same in the smallest form of the frame read.
@@ -62,12 +77,8 @@ pub fn open_smallest(frame: &[u8], pixels: &mut [u32], held: &mut [u8]) -> FormO
     };
     let form = smallest::form_in(smallest::choose(frame, pixels));
     let asked = Some(form);
-    let written = writer::write(frame, pixels, asked, held);
     FormOpened {
         form,
-        answer: Ok(Opened {
-            frame: size,
-            held: written,
-        }),
+        answer: Ok(hold(frame, size, pixels, asked, held)),
     }
 }
