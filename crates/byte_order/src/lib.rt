@@ -50,11 +50,27 @@ trait Stored {
     ghost few: { BYTES ≤ 4 };
 }
 
+struct Little2;
+
 struct Big2;
 
 struct Little4;
 
 struct Big4;
+
+impl Stored for Little2 {
+    ghost order = { Little };
+
+    ghost BYTES = { 2 };
+
+    const BYTES: usize = 2;
+
+    fn read(t: &[u8], at: usize) -> u32 {
+        u32::from(u16::from_le_bytes([t[at], t[at + 1]]))
+    }
+
+    ghost few = { Prim.search rules };
+}
 
 impl Stored for Big2 {
     ghost order = { Big };
@@ -129,14 +145,15 @@ fn load_stored<S: Stored>(t: &[u8], out: &mut [u32]) -> bool
     true
 }
 
-// As many numbers as out has places, if t has them. Each order and width has a loop of its own; a number of one byte is the same in both orders.
+// As many numbers as out has places, if t has them. Each order and width has a loop of its own: a second call of `table::load` here and the
+// compiler makes one of both, whose width it does not know. A number of one byte is the same in both orders.
 pub fn load(t: &[u8], order: ByteOrder, width: Width, out: &mut [u32]) -> bool
     ensures value { result ≡ leb (length out.old * width_bytes width) (length t.now) }
     ensures out_after { out.new ≡ if◌then◌else◌ (leb (length out.old * width_bytes width) (length t.now)) (numbers order (width_bytes width) (length out.old) t.now) out.old }
 {
     match (width, order) {
         (Width::One, _) => table::load(t, Width::One, out),
-        (Width::Two, ByteOrder::Little) => table::load(t, Width::Two, out),
+        (Width::Two, ByteOrder::Little) => load_stored::<Little2>(t, out),
         (Width::Two, ByteOrder::Big) => load_stored::<Big2>(t, out),
         (Width::Four, ByteOrder::Little) => load_stored::<Little4>(t, out),
         (Width::Four, ByteOrder::Big) => load_stored::<Big4>(t, out),

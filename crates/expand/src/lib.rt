@@ -247,12 +247,13 @@ fn block_size(w: Width) -> usize
     }
 }
 
-// The end of the block that starts at p.
+// The end of the block that starts at p. Here and in `run_end` by a choice and not by the method `min`, so that the compiler sees a block's length.
 fn block_end(w: Width, p: usize, n: usize) -> usize
     requires { p < n }
     ensures { (p < result) × (result ≤ n) }
 {
-    p + block_size(w).min(n - p)
+    let size = block_size(w);
+    if size < n - p { p + size } else { n }
 }
 
 // The three steps of a block.
@@ -501,7 +502,7 @@ fn run_end(p: usize, n: usize) -> usize
     requires { p ≤ n }
     ensures { (p ≤ result) × (result ≤ n) }
 {
-    p + (n - p).min(512)
+    if 512 < n - p { p + 512 } else { n }
 }
 
 // The three steps of all pixels of width 1 where few take an entry: runs of those that take none, and each other by itself. How far a

@@ -3,7 +3,7 @@
 use mathlib.Core.Path.{◌≡◌, refl, sym, ap, ◌∙◌}
 use mathlib.Core.Bool.{Bool, true, false}
 use mathlib.Core.List.{List, [], ◌∷◌, ◌++◌, map, map-append, append-nil, append_assoc}
-use Prim.Native.Nat.{ℕ, suc, ◌+◌, ◌-◌, ◌*◌, ◌≤◌, ◌<◌}
+use Prim.Native.Nat.{ℕ, suc, ◌+◌, ◌-◌, ◌*◌, ◌≤◌}
 use native.Mathlib.Nat.{add-mul, mul-le-mul_right}
 use native.Mathlib.Omega.{arith}
 use borrow.Rule.Slice.PartMut.{put_mid}
@@ -82,7 +82,7 @@ sub_back p e h = omega arith
 pub part_bytes : (p n w l : ℕ) → p ≤ n → n * w ≤ l → p * w ≤ l
 part_bytes p n w l h k = omega (arith, mul-le-mul_right w h)
 
-module _ (w m : ℕ) (image px₀ px : List ℕ) (marks p e : ℕ) (f : Blocks w m image px₀ px marks p) (room : length px₀ * w ≤ length image) (h : p < e) (k : e ≤ length px₀) where
+module _ (w m : ℕ) (image px₀ px : List ℕ) (marks p e : ℕ) (f : Blocks w m image px₀ px marks p) (room : length px₀ * w ≤ length image) (h : p ≤ e) (k : e ≤ length px₀) where
   size : length (take (e - p) (drop p px)) ≡ e - p
   size = length-take-le (e - p) (drop p px) (simp length-drop (omega (arith, f.same)))
 

@@ -61,19 +61,21 @@ fn entry_at(table: &[u8], at: usize) -> Option<Entry>
     Some(Entry { intensity, pixel })
 }
 
-// Takes the n entries of the table in file order; the first bad one decides.
+// Takes the n entries of the table in file order; the first bad one decides, by a loop that breaks there (document 01, list of forms by place).
 fn place_entries(table: &[u8], n: u32, pixels: &mut [u32]) -> Result<(), Refusal>
     requires { n * 16 ≤ length table.now }
     ensures value { result ≡ placing waiting pixels.old 0 (text_entries n table.now) }
     ensures pixels_after { pixels.new ≡ placed waiting pixels.old (text_entries n table.now) }
 {
+    let mut checked = Ok(());
     for k in 0..n {
         let e = entry_at(table, k as usize * 16);
         if !marks::place_entry(e, WAITING, pixels) {
-            return Err(Refusal::BadEntry { entry: k });
+            checked = Err(Refusal::BadEntry { entry: k });
+            break;
         }
     }
-    Ok(())
+    checked
 }
 
 fn waiting_if(v: u32, mark: u32) -> u32
@@ -95,7 +97,8 @@ fn await_entries(pixels: &mut [u32], mark: u32) -> usize
     marks
 }
 
-// A block of the stored image, with its marks waiting and counted.
+// A block of the stored image, with its marks waiting and counted. Always a part of its callers, which know the width and the mark.
+#[inline(always)]
 fn load_block(image: &[u8], w: Width, mark: u32, pixels: &mut [u32]) -> usize
     requires { length pixels.old * width_bytes w ≤ length image.now }
     ensures value { result ≡ count_of mark (entries (width_bytes w) (length pixels.old) image.now) }
@@ -109,21 +112,25 @@ fn load_block(image: &[u8], w: Width, mark: u32, pixels: &mut [u32]) -> usize
     }
 }
 
-// The stored image by blocks, with its marks waiting and counted: 64 pixels stay in the nearest cache, and few blocks hold a mark.
+// The stored image by blocks, with its marks waiting and counted: 64 pixels stay in the nearest cache, and few blocks hold a mark. What is
+// left over stands behind the loop, so that the compiler knows the length of a block: one loop for both takes twice the instructions.
+#[inline(always)]
 fn load_marks(image: &[u8], w: Width, mark: u32, pixels: &mut [u32]) -> usize
     requires { length pixels.old * width_bytes w ≤ length image.now }
     ensures value { result ≡ count_of mark (entries (width_bytes w) (length pixels.old) image.now) }
     ensures pixels_after { pixels.new ≡ map (waiting_if mark) (entries (width_bytes w) (length pixels.old) image.now) }
 {
     let each = layout::width_bytes(w);
+    let n = pixels.len();
     let mut marks: usize = 0;
-    for block in 0..pixels.len().div_ceil(64) {
+    for block in 0..n / 64 {
         let p = block * 64;
-        let n = (pixels.len() - p).min(64);
         let at = p * each;
-        marks += load_block(&image[at..], w, mark, &mut pixels[p..p + n]);
+        marks += load_block(&image[at..], w, mark, &mut pixels[p..p + 64]);
     }
-    marks
+    let p = n - n % 64;
+    let at = p * each;
+    marks + load_block(&image[at..], w, mark, &mut pixels[p..])
 }
 
 // A width written at the call makes the read of a pixel a single load.
