@@ -1,5 +1,7 @@
 -- Correction, withdrawal and amending, by what replacing a pixel answers and leaves.
 -- Assumes nothing.
+use Rattle.canonical.specs.declared.Place.{Place}
+use Rattle.canonical.specs.declared.Unlocated.{Unlocated}
 use Rattle.canonical.specs.declared.Unlocated.TheVariants.{NoPixel}
 use Rattle.canonical.specs.declared.Unlocated.TheVariants.{NotCanonical}
 use Rattle.ledger.specs.Standing.{line_found}
@@ -200,6 +202,10 @@ pub keep-held : (held ledger : List ℕ) (lines : ℕ) → is_held held ≡ true
 unfolding keep_withdrawn append_answer append_bytes
 keep-held held ledger lines h = rw h (keep-tests held ledger lines (ledger_full ledger lines))
 
+pub keep-not-held : (held ledger : List ℕ) (lines : ℕ) → is_held held ≡ false → keep_withdrawn held ledger lines ≡ refuse held ledger lines R.HeldNotCanonical
+unfolding keep_withdrawn
+keep-not-held held ledger lines h = rw h
+
 keep-same-tests : (held ledger : List ℕ) (lines : ℕ) (a b : Bool)
     → (if◌then◌else◌ (not a) (refuse held ledger lines R.HeldNotCanonical) (if◌then◌else◌ b (refuse held ledger lines R.LedgerFull) (outcome (Ok (lines + 1)) held (with_line ledger lines withdrawal_line)))).held ≡ held
 keep-same-tests held ledger lines false b = refl
@@ -209,6 +215,28 @@ keep-same-tests held ledger lines true false = refl
 pub keep_same : (held ledger : List ℕ) (lines : ℕ) → (keep_withdrawn held ledger lines).held ≡ held
 unfolding keep_withdrawn
 keep_same held ledger lines = keep-same-tests held ledger lines (is_held held) (ledger_full ledger lines)
+
+-- what the check says of 19
+located-tests : (a b : Bool) (p : Place) → (if◌then◌else◌ (not a) (Err NotCanonical) (if◌then◌else◌ b (Err NoPixel) (Ok p)) ≡ Err NotCanonical) → a ≡ false
+located-tests false b p e = refl
+located-tests true true p e = let z : ◌≡◌ {A = ℕ} 0 1 = cc in absurd (omega arith)
+located-tests true false p e = let z : ◌≡◌ {A = ℕ} 0 1 = cc in absurd (omega arith)
+
+pub not-located : (held : List ℕ) (pixel : ℕ) → located held pixel ≡ Err NotCanonical → is_held held ≡ false
+unfolding located
+not-located held pixel e = located-tests (is_held held) (leb (held_count held) pixel) (place_in held pixel) e
+
+other-tests : (a b : Bool) (p : Place) (x : Result Place Unlocated) → (if◌then◌else◌ (not a) (Err NotCanonical) (if◌then◌else◌ b (Err NoPixel) (Ok p)) ≡ x) → (x ≡ Err NotCanonical → ⊥) → a ≡ true
+other-tests true b p x e f = refl
+other-tests false b p x e f = absurd (f (sym e))
+
+pub no-pixel : (held : List ℕ) (pixel : ℕ) → located held pixel ≡ Err NoPixel → is_held held ≡ true
+unfolding located
+no-pixel held pixel e = other-tests (is_held held) (leb (held_count held) pixel) (place_in held pixel) (Err NoPixel) e (λ q. let z : ◌≡◌ {A = ℕ} 0 1 = cc in omega arith)
+
+pub at_place : (held : List ℕ) (pixel : ℕ) (p : Place) → located held pixel ≡ Ok p → is_held held ≡ true
+unfolding located
+at_place held pixel p e = other-tests (is_held held) (leb (held_count held) pixel) (place_in held pixel) (Ok p) e (λ q. let z : ◌≡◌ {A = ℕ} 0 1 = cc in omega arith)
 
 -- the last standing line, or the refusal that is due in its place
 module _ (held ledger : List ℕ) (lines : ℕ) where

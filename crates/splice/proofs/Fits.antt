@@ -1,7 +1,7 @@
 -- Padding, and the numbers that an edit takes.
 -- Assumes nothing.
-use mathlib.Core.Path.{◌≡◌, sym, subst}
-use mathlib.Core.Bool.{Bool, true, ◌&&◌}
+use mathlib.Core.Path.{◌≡◌, refl, sym, subst}
+use mathlib.Core.Bool.{Bool, true, false, ◌&&◌}
 use Prim.Native.Nat.{ℕ, ◌+◌, ◌-◌, ◌*◌, ◌/◌, ◌%◌, ◌≤◌, ◌<◌}
 use native.Mathlib.Omega.{arith}
 use mathlib.Core.List.{List}
@@ -56,6 +56,11 @@ abbrev pub Fits : (room s n before old post w : ℕ) → Type 0
 Fits room s n before old post w =
     (before + old ≤ n) × (old ≤ 16) × (w ≤ 16) × (s + padded_to 16 n + post ≤ room) × (s + padded_to 16 (n - old + w) + post ≤ room)
 
+-- a test came out false where true is impossible
+not-true : (t : Bool) → (t ≡ true → ⊥) → t ≡ false
+not-true true h = absurd (h refl)
+not-true false h = refl
+
 module _ (room s n before old post w : ℕ) where
   pub fits-when : before + old ≤ n → old ≤ 16 → w ≤ 16 → s + padded_to 16 n + post ≤ room → s + padded_to 16 (n - old + w) + post ≤ room
       → edit_fits room s n before old post w ≡ true
@@ -77,6 +82,9 @@ module _ (room s n before old post w : ℕ) where
         leb-true _ _ (and-true-right d (leb (s + padded_to 16 (n - old + w) + post) room) t),
       )
 
+  pub unfit : (Fits room s n before old post w → n ≤ padded_to 16 n → ⊥) → edit_fits room s n before old post w ≡ false
+  unfit h = not-true _ (λ t. h (fits-then t) (pad-bounds n).0)
+
   -- what `resize` needs
   pub resize-room : Fits room s n before old post w → s + before + w + (n - (before + old)) + (fill n + 32 + old - w) % 16 + post ≤ room
   resize-room f =
@@ -88,7 +96,18 @@ module _ (room at w : ℕ) where
   unfolding put_fits
   put-fits a b = rw (le-leb _ _ a, le-leb _ _ b)
 
+  pub put-unfit : ((w ≤ 4) × (at + w ≤ room) → ⊥) → put_fits room at w ≡ false
+  unfolding put_fits
+  put-unfit h = not-true _ (λ t. h (leb-true _ _ (and-true-left (leb w 4) (leb (at + w) room) t), leb-true _ _ (and-true-right (leb w 4) (leb (at + w) room) t)))
+
 module _ (b : List ℕ) (from to n : ℕ) where
   pub copy-fits : from + n ≤ length b → to + n ≤ length b → copied b from to n ≡ moved b from to n
   unfolding copied
   copy-fits f t = rw (le-leb _ _ f, le-leb _ _ t)
+
+  pub copy-unfit : ((from + n ≤ length b) × (to + n ≤ length b) → ⊥) → copied b from to n ≡ b
+  unfolding copied
+  copy-unfit h =
+      let e : (leb (from + n) (length b) && leb (to + n) (length b)) ≡ false =
+      not-true _ (λ t. h (leb-true _ _ (and-true-left (leb (from + n) (length b)) (leb (to + n) (length b)) t), leb-true _ _ (and-true-right (leb (from + n) (length b)) (leb (to + n) (length b)) t))) in
+      rw e

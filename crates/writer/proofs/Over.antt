@@ -1,6 +1,6 @@
 -- Bytes put over a buffer.
 -- Assumes nothing.
-use Rattle.std.proofs.Common.{◌≡◌, ℕ, ◌+◌, ◌-◌, ◌*◌, ◌≤◌, leb, List, [], ◌∷◌, ◌++◌, map, length, take, drop, sym, refl, ap, ◌∙◌, append-nil, arith, length-drop, drop_of_length-le, length-take, drop-drop, le-leb}
+use Rattle.std.proofs.Common.{◌≡◌, ℕ, ◌+◌, ◌-◌, ◌*◌, ◌%◌, ◌<◌, ◌≤◌, leb, List, [], ◌∷◌, ◌++◌, map, length, take, drop, sym, refl, ap, ◌∙◌, append-nil, arith, length-drop, drop_of_length-le, length-take, drop-drop, le-leb}
 use lib.ListN.{length-map}
 use borrow.Rule.Slice.PartMut.{put_mid}
 use Rattle.std.specs.Prelude.{if◌then◌else◌}
@@ -23,6 +23,10 @@ put-part values d ys w at e p h q =
     let z : drop (length values * w) (take (e - at) (drop at d)) ≡ [] = drop_of_length-le (take (e - at) (drop at d)) {i = length values * w} (rw l (omega arith)) in
     let y : ys ≡ table_of w values = q ∙ rw (l, le-leb (length values * w) (length values * w) (omega arith), z, append-nil) in
     rw (y, n, length-table, drop-drop)
+
+-- wrapping subtraction, by its contract
+pub less-wrapped : (r base v : ℕ) → r < 4294967296 → base < 4294967296 → (r + base) % 4294967296 ≡ v → r ≡ less_wrapped base v
+less-wrapped r base v h k e = omega arith
 
 -- the same for values less a base
 pub run-part : (run d ys : List ℕ) (base w at e : ℕ) → e ≡ at + length run * w → e ≤ length d
